@@ -1,0 +1,35 @@
+-- Adding to a bounded text.
+use mathlib.Core.Path.{_≡_, sym, ap, _∙_}
+use mathlib.Core.List.{List, [], _∷_, _++_}
+use Prim.Native.Nat.{ℕ, _+_, _-_, _<_, _≤_, min}
+use native.Mathlib.Omega.{arith}
+use lib.ListN.{length, take, set}
+use lib.Seq.{take-append-add}
+use mathlib.Core.Logic.{inl, inr}
+use Rattle.std.proofs.shelf.Tests.{cases-lt}
+use Rattle.std.proofs.shelf.Lists.{take-more-set, take-all, take-append-le, length-push, length-take-le, length-append, length-take, append-assoc}
+use Rattle.text.specs.Kept.{added}
+
+take-min : (k : ℕ) (xs : List ℕ) → take (min (length xs) k) xs ≡ take k xs
+take-min k xs =
+    elim (cases-lt k (length xs)) [
+      inl lt ↦ (let j : min (length xs) k ≡ k = omega arith in ap (λ j. take j xs) j)
+    | inr ge ↦ (let j : min (length xs) k ≡ length xs = omega arith in ap (λ j. take j xs) j ∙ take-all (length xs) xs (omega arith) ∙ sym (take-all k xs (omega arith))) ]
+
+-- a byte is written behind the first m of n bytes
+pub added-one : (n m b : ℕ) (bs : List ℕ) → length bs ≡ n → m < n → take (m + 1) (set bs m b) ≡ added n (take m bs) (b ∷ [])
+added-one n m b bs e h =
+    take-more-set bs m b (omega arith) ∙ sym (take-all n (take m bs ++ b ∷ []) (omega (arith, length-push (take m bs) b, length-take-le m bs (omega arith))))
+
+-- a full text stays as it is
+pub added-full : (n m : ℕ) (bs more : List ℕ) → length bs ≡ n → m ≤ n → n ≤ m → take m bs ≡ added n (take m bs) more
+added-full n m bs more e h k =
+    let l = length-take-le m bs (omega arith) in
+    sym (take-append-le n (take m bs) more (omega arith) ∙ take-all n (take m bs) (omega arith))
+
+-- as many bytes as there is room for come behind the first m of n bytes
+pub added-many : (n m : ℕ) (bs more : List ℕ) → length bs ≡ n → m ≤ n → take m bs ++ take (min (length more) (n - m)) more ≡ added n (take m bs) more
+added-many n m bs more e h =
+    let front = length-take-le m bs (omega arith) in
+    let room : n ≡ length (take m bs) + (n - m) = omega arith in
+    sym (ap (λ k. take k (take m bs ++ more)) room ∙ take-append-add (take m bs) more (n - m) ∙ ap (λ xs. take m bs ++ xs) (sym (take-min (n - m) more)))
