@@ -8,5 +8,5 @@ abbrev pub kept : Text → List ℕ
 kept t = take (t .len) (t .bytes)
 
 -- a text of at most n bytes, with more added at its end
-abbrev pub added : ℕ → List ℕ → List ℕ → List ℕ
+unfoldable pub added : ℕ → List ℕ → List ℕ → List ℕ
 added n bs more = take n (bs ++ more)
