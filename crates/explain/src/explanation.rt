@@ -115,7 +115,8 @@ fn cause_words(cause: Cause) -> &'static [u8]
 {
     match cause {
         Cause::Missing => b"a wanted field is missing or empty",
-        Cause::Strange => b"a word is none of those allowed, or a number holds a byte other than 0 to 9",
+        Cause::Strange =>
+            b"a word is none of those allowed, or a number holds a byte other than 0 to 9",
         Cause::Large => b"a number has more than 10 digits, or is above its limit",
         Cause::Name(fault) => name_words(fault),
         Cause::Extra => b"a field follows the last one wanted",

@@ -81,5 +81,9 @@ fn hex_digit(digit: u8) -> u8
     requires { ⌜ digit < 16 ⌝ }
     ensures { λ r. ⌜ r ≡ hexDigit digit ⌝ }
 {
-    if digit < 10 { b'0' + digit } else { b'a' + (digit - 10) }
+    if digit < 10 {
+        b'0' + digit
+    } else {
+        b'a' + (digit - 10)
+    }
 }

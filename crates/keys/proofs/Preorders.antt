@@ -62,11 +62,11 @@ module _ {K : Type 0} {order : K → K → Order} (laws : Lawful order) where
 
   pub total-preorder : TotalPreorder order
   total-preorder = record {
-      alike-itself = alike-itself;
-      alike-turned = alike-turned;
-      alike-chained = alike-chained;
-      before-chained = before-chained;
-      one-of-three = one-of-three;
-      alike-left = alike-left;
-      alike-right = alike-right
-    }
+    alike-itself = alike-itself;
+    alike-turned = alike-turned;
+    alike-chained = alike-chained;
+    before-chained = before-chained;
+    one-of-three = one-of-three;
+    alike-left = alike-left;
+    alike-right = alike-right;
+  }

@@ -16,9 +16,9 @@ use Rattle.keys.specs.Ranks.{LawfulKind, RankLaws, bucketOf, tagOf, byRank}
 module _ {K : Type 0} {order : K → K → Order} (laws : Lawful order) (number : K → ℕ) where
   pub number-first : Lawful (λ a b. thenBy (byNumber (number a) (number b)) (order a b))
   number-first = record {
-      turned = λ a b. let t = laws .turned a b in grind (arith, tells);
-      chained = λ a b c h k. let t = laws .chained a b c in grind (arith, tells)
-    }
+    turned = λ a b. let t = laws .turned a b in grind (arith, tells);
+    chained = λ a b c h k. let t = laws .chained a b c in grind (arith, tells);
+  }
 
 -- 2 ^ k buckets hold all of 16 bits
 pub bucket-small : (k : ℕ) (h : Hash) → k ≤ 16 → bucket k (h .value) < 2 ^ k
@@ -31,9 +31,9 @@ bucket-small k h le =
 module _ {K : Type 0} {order : K → K → Order} {digest : K → Hash} (laws : LawfulKind order digest) (k : ℕ) where
   pub rank-laws : RankLaws order digest k
   rank-laws = record {
-      lawful = number-first (laws .ordered) (tagOf order digest k);
-      equal-alike = λ a b h. grind (arith, tells);
-      alike-equal = λ a b h. let e = ap (tag k) (laws .alike-hash a b h) in grind (arith, tells);
-      alike-bucket = λ a b h. ap (bucket k) (laws .alike-hash a b h);
-      bucket-small = λ a le. bucket-small k (digest a) le
-    }
+    lawful = number-first (laws .ordered) (tagOf order digest k);
+    equal-alike = λ a b h. grind (arith, tells);
+    alike-equal = λ a b h. let e = ap (tag k) (laws .alike-hash a b h) in grind (arith, tells);
+    alike-bucket = λ a b h. ap (bucket k) (laws .alike-hash a b h);
+    bucket-small = λ a le. bucket-small k (digest a) le;
+  }

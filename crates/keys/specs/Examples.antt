@@ -29,7 +29,7 @@ nameOrders = (codes "A", codes "AB") ∷ (codes "AB", codes "B") ∷ []
 abbrev pub Examples : Type 0
 Examples =
     Each (λ c. berthHash (record { harbour = 0; berth = c .0 }) .value ≡ c .1) berthHashes
-  × Each (λ c. bytesHash (c .0) .value ≡ c .1) nameHashes
-  × Each (λ c. byBytes (c .0) (c .1) ≡ Before) nameOrders
-  × (bucket 8 40503 ≡ 158)
-  × (tag 8 40503 ≡ 55)
+    × Each (λ c. bytesHash (c .0) .value ≡ c .1) nameHashes
+    × Each (λ c. byBytes (c .0) (c .1) ≡ Before) nameOrders
+    × (bucket 8 40503 ≡ 158)
+    × (tag 8 40503 ≡ 55)

@@ -70,8 +70,8 @@ seenIn (Err e) = Err e
 abbrev pub fieldIn : Kind → Reading Seen
 fieldIn kind line p =
     cond (lacks line (p .byte))
-      (Err (fault cause.Missing (place (p .field) (min (p .byte) (length line)))), p)
-      (Ok (record { kind = kind; bytes = fieldBytes line (p .byte); place = p }), place (p .field + 1) (fieldEnd line (p .byte) + 1))
+    (Err (fault cause.Missing (place (p .field) (min (p .byte) (length line)))), p)
+    (Ok (record { kind = kind; bytes = fieldBytes line (p .byte); place = p }), place (p .field + 1) (fieldEnd line (p .byte) + 1))
 
 -- a result about the bytes of a field, with the field's place at its fault
 abbrev pub placed : {X : Type 0} → Place → Result X Cause → Result X FieldFault

@@ -44,7 +44,10 @@ fn read_task<B: Board>(from: &mut Reader<'_>) -> Result<Task<B::Key, B::Value>, 
 }
 
 // What a verb goes on with.
-fn read_action<B: Board>(from: &mut Reader<'_>, verb: Verb) -> Result<Action<B::Key, B::Value>, FieldFault>
+fn read_action<B: Board>(
+    from: &mut Reader<'_>,
+    verb: Verb,
+) -> Result<Action<B::Key, B::Value>, FieldFault>
     requires { ⌜ now from .next .field ≡ 4 ⌝ }
     ensures value { λ r. ⌜ (r, now (from .exit) .next) ≡ actionIn (B·Board .keyIn) (B·Board .valueIn) verb (text (now (from .entry))) (now (from .entry) .next) ⌝ }
     ensures line { λ _. ⌜ text (now (from .exit)) ≡ text (now (from .entry)) ⌝ }
@@ -59,7 +62,9 @@ fn read_action<B: Board>(from: &mut Reader<'_>, verb: Verb) -> Result<Action<B::
 }
 
 // A call on the board B: what follows its letter, the first field.
-pub(crate) fn read_call<B: Board>(from: &mut Reader<'_>) -> Result<Call<B::Key, B::Value>, FieldFault>
+pub(crate) fn read_call<B: Board>(
+    from: &mut Reader<'_>,
+) -> Result<Call<B::Key, B::Value>, FieldFault>
     requires { ⌜ now from .next .field ≡ 2 ⌝ }
     ensures value { λ r. ⌜ (r, now (from .exit) .next) ≡ callIn (B·Board .keyIn) (B·Board .valueIn) (text (now (from .entry))) (now (from .entry) .next) ⌝ }
     ensures line { λ _. ⌜ text (now (from .exit)) ≡ text (now (from .entry)) ⌝ }

@@ -56,11 +56,13 @@ impl<'a> Reader<'a> {
             bytes: &line[place.byte..end],
             place,
         };
-        Ok(match kind {
-            Kind::Word => Field::Word(part),
-            Kind::Digits => Field::Digits(part),
-            Kind::Name => Field::Name(part),
-        })
+        Ok(
+            match kind {
+                Kind::Word => Field::Word(part),
+                Kind::Digits => Field::Digits(part),
+                Kind::Name => Field::Name(part),
+            },
+        )
     }
 
     // The next field as a number.

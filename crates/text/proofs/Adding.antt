@@ -14,8 +14,9 @@ use Rattle.text.specs.Kept.{kept, added}
 take-min : (k : ℕ) (xs : List ℕ) → take (min (length xs) k) xs ≡ take k xs
 take-min k xs =
     elim (cases-lt k (length xs)) [
-      inl lt ↦ (let j : min (length xs) k ≡ k = omega arith in ap (λ j. take j xs) j)
-    | inr ge ↦ (let j : min (length xs) k ≡ length xs = omega arith in ap (λ j. take j xs) j ∙ take-all (length xs) xs (omega arith) ∙ sym (take-all k xs (omega arith))) ]
+      | inl lt ↦ (let j : min (length xs) k ≡ k = omega arith in ap (λ j. take j xs) j)
+      | inr ge ↦ (let j : min (length xs) k ≡ length xs = omega arith in ap (λ j. take j xs) j ∙ take-all (length xs) xs (omega arith) ∙ sym (take-all k xs (omega arith)))
+    ]
 
 -- a byte is written behind the first m of n bytes
 pub added-one : (n m b : ℕ) (bs : List ℕ) → length bs ≡ n → m < n → take (m + 1) (set bs m b) ≡ added n (take m bs) (b ∷ [])
@@ -41,8 +42,9 @@ added-many n m bs more e h =
 cut-twice : (n : ℕ) (xs ys : List ℕ) → take n (take n xs ++ ys) ≡ take n (xs ++ ys)
 cut-twice n xs ys =
     elim (cases-lt n (length xs)) [
-      inl lt ↦ (let l = length-take-le n xs (omega arith) in take-append-le n (take n xs) ys (omega arith) ∙ take-take n n xs (omega arith) ∙ sym (take-append-le n xs ys (omega arith)))
-    | inr ge ↦ ap (λ zs. take n (zs ++ ys)) (take-all n xs ge) ]
+      | inl lt ↦ (let l = length-take-le n xs (omega arith) in take-append-le n (take n xs) ys (omega arith) ∙ take-take n n xs (omega arith) ∙ sym (take-append-le n xs ys (omega arith)))
+      | inr ge ↦ ap (λ zs. take n (zs ++ ys)) (take-all n xs ge)
+    ]
 
 -- two additions, one after the other, are one
 pub added-both : (n : ℕ) (t a b : List ℕ) {u v : List ℕ} → u ≡ added n t a → v ≡ added n u b → v ≡ added n t (a ++ b)

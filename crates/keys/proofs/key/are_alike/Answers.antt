@@ -6,5 +6,5 @@ pub returns : need.returns
 returns g c =
     record {
       value = search needs;
-      laws = total-preorder (record { turned = g .K·Key·met .turned; chained = g .K·Key·met .chained })
+      laws = total-preorder (record { turned = g .K·Key·met .turned; chained = g .K·Key·met .chained });
     }

@@ -7,5 +7,5 @@ returns g c =
     let met = g .K·Key·met in
     record {
       value = search needs;
-      laws = rank-laws (record { ordered = record { turned = met .turned; chained = met .chained }; alike-hash = met .hashed }) (c .args .k)
+      laws = rank-laws (record { ordered = record { turned = met .turned; chained = met .chained }; alike-hash = met .hashed }) (c .args .k);
     }

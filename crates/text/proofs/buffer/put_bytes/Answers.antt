@@ -23,5 +23,5 @@ returns c =
     let args = c .args in
     record {
       after = written (args .len) (c .min .result) _ _ (args .buffer .now) (args .more .now) (c .copy-from-slice .last .self) (c .pre) (c .min .ensures) (c .copy-from-slice .ensures .after) (omega arith) (omega arith);
-      bound = search needs
+      bound = search needs;
     }

@@ -24,5 +24,5 @@ returns c =
     let l = c .loop-rest in
     record {
       value = digit-first (l .rest) (l .at) (l .digits) (omega arith) (l .inv .0) (omega arith) ∙ l .inv .3;
-      bound = omega arith
+      bound = omega arith;
     }
