@@ -1,0 +1,5 @@
+pub mod Lists
+pub mod Items
+pub mod Sessions
+pub mod Records
+pub mod Reads
