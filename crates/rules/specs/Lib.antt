@@ -1,0 +1,14 @@
+pub mod States
+pub mod Making
+pub mod Free
+pub mod Begin
+pub mod Decide
+pub mod Act
+pub mod Turn
+pub mod Collect
+pub mod Abandon
+pub mod Steps
+pub mod Plain
+pub mod Runs
+pub mod RunLaw
+pub mod Examples
