@@ -4,6 +4,7 @@ mod abandon;
 mod acting;
 mod actor;
 mod begin;
+mod blank;
 mod call;
 mod collect;
 mod deciding;

@@ -1,5 +1,5 @@
 -- Making an index in tables with any contents.
-use mathlib.Core.Bool.{Bool, true, cond, _&&_}
+use mathlib.Core.Bool.{Bool, true, false, cond, _&&_}
 use mathlib.Core.List.{List, [], _∷_}
 use Prim.Native.Nat.{ℕ, suc, _-_, _^_}
 use lib.Dec.{eqb, leb, ltb}
@@ -16,6 +16,10 @@ use Rattle.rules.specs.States.{State, state, Outcome}
 -- the record: all sessions idle, and the hand at the last place
 abbrev pub newCore : ℕ → ℕ → Core
 newCore k n = record { sessions = replicate 16 idle; bits = k; places = n; hand = n - 1; made = true }
+
+-- a record that was never made
+abbrev pub blankCore : Core
+blankCore = record { sessions = replicate 16 idle; bits = 0; places = 0; hand = 0; made = false }
 
 -- these lengths of the three tables are those of an index of k head bits
 abbrev pub areMakable : ℕ → ℕ → ℕ → ℕ → Bool

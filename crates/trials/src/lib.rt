@@ -1,4 +1,6 @@
-// Tables of cases over keys, operations and lines.
+// Tables of cases over keys, operations, lines and the index.
+#[cfg(test)]
+mod index_cases;
 #[cfg(test)]
 mod key_cases;
 #[cfg(test)]
