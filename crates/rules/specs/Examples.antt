@@ -17,16 +17,17 @@ use Rattle.calls.specs.declared.call.Call.{Call}
 use Rattle.calls.specs.declared.fault.IndexFault.{IndexFault}
 use Rattle.calls.specs.declared.fault.IndexFault.the-variants.{NoPlace}
 use Rattle.calls.specs.declared.operation.Operation.{Operation}
-use Rattle.calls.specs.declared.operation.Operation.the-variants.{Find, Insert, Replace}
+use Rattle.calls.specs.declared.operation.Operation.the-variants.{Find, Insert, Replace, Remove}
 use Rattle.calls.specs.declared.reply.Progress.the-variants.{Moved, Again, Held, Claimed, Ended}
 use Rattle.calls.specs.declared.reply.Reply.{Reply}
-use Rattle.calls.specs.declared.reply.Reply.the-variants.{Begun, Turned, Collected}
+use Rattle.calls.specs.declared.reply.Reply.the-variants.{Begun, Turned, Collected, Abandoned}
 use Rattle.keys.specs.declared.berth.Berth.{Berth}
 use Rattle.keys.specs.Berths.{byBerth, berthHash}
 use Rattle.tables.specs.declared.item.Item.{Item}
 use Rattle.tables.specs.declared.item.ItemState.{ItemState}
 use Rattle.tables.specs.declared.item.ItemState.the-variants.{Out, SetAside, InRing}
 use Rattle.tables.specs.declared.request.Request.{Request}
+use Rattle.tables.specs.Reads.{none}
 use Rattle.rules.specs.States.{State, state}
 use Rattle.rules.specs.Making.{newCore, make}
 use Rattle.rules.specs.Steps.{played}
@@ -74,6 +75,9 @@ ends s = (call s action.Turn, Ok (Turned Ended))
 abbrev pub answers : ℕ → Option ℕ → Answered
 answers s v = (call s action.Collect, Ok (Collected v))
 
+abbrev pub givesUp : ℕ → Answered
+givesUp s = (call s action.Abandon, Ok Abandoned)
+
 -- berth 1 is inserted in one turn; berth 2 is not found
 abbrev pub morning : List Answered
 morning = begins 0 Insert 1 10 ∷ ends 0 ∷ answers 0 None ∷ begins 0 Find 2 0 ∷ moves 0 ∷ ends 0 ∷ answers 0 None ∷ []
@@ -96,6 +100,18 @@ evening =
     ∷ (call 1 (action.Begin (record { operation = Insert; key = berth 5; value = 50 })), Err NoPlace)
     ∷ []
 
+-- session 0 gives its insert up, then claims berth 2 and gives that up too; session 1 claims it and removes it
+abbrev pub night : List Answered
+night =
+    givesUp 0 ∷ begins 0 Remove 2 0 ∷ moves 0 ∷ claims 0 ∷ givesUp 0 ∷ begins 1 Remove 2 0 ∷ moves 1 ∷ claims 1 ∷ ends 1 ∷ answers 1 (Some 21) ∷ []
+
+-- the other two are removed, the last from a ring of one
+abbrev pub midnight : List Answered
+midnight =
+    begins 0 Remove 4 0 ∷ moves 0 ∷ claims 0 ∷ ends 0 ∷ answers 0 (Some 40)
+    ∷ begins 0 Remove 1 0 ∷ moves 0 ∷ claims 0 ∷ ends 0 ∷ answers 0 (Some 10)
+    ∷ []
+
 abbrev pub after : List Answered → State Berth ℕ
 after day = played byBerth berthHash dawn (map (λ c. c .0) day) .1
 
@@ -112,7 +128,7 @@ stateAt st p = mapped (λ it. it .state) (nth (st .items) p)
 
 abbrev pub WorkedDay : Type 0
 WorkedDay =
-    Plays (morning ++ noon ++ afternoon ++ evening)
+    Plays (morning ++ noon ++ afternoon ++ evening ++ night ++ midnight)
     -- berth 1 lies alone at place 0
     × (after morning .heads ≡ 0 ∷ [])
     × (nextAt (after morning) 0 ≡ Some 0)
@@ -127,6 +143,12 @@ WorkedDay =
     × (nextAt (after (morning ++ noon ++ afternoon)) 3 ≡ Some 0)
     -- place 1 is set aside
     × (stateAt (after (morning ++ noon ++ afternoon ++ evening)) 1 ≡ Some SetAside)
+    -- place 1 is out again, and the ring is 0, 3
+    × (stateAt (after (morning ++ noon ++ afternoon ++ evening ++ night)) 1 ≡ Some Out)
+    × (nextAt (after (morning ++ noon ++ afternoon ++ evening ++ night)) 0 ≡ Some 3)
+    × (nextAt (after (morning ++ noon ++ afternoon ++ evening ++ night)) 3 ≡ Some 0)
+    -- there is no ring
+    × (after (morning ++ noon ++ afternoon ++ evening ++ night ++ midnight) .heads ≡ none ∷ [])
 
 -- calls and their answers, in order, as events before earlier ones, the newest first
 abbrev pub eventsOf : List Answered → List (Event Berth ℕ) → List (Event Berth ℕ)

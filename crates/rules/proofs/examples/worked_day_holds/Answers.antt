@@ -4,4 +4,4 @@ use Rattle.rules.proofs.examples.worked_day_holds.Needs as need
 
 pub returns : need.returns
 unfolding between
-returns c = (refl, refl, refl, refl, refl, refl, refl, refl, refl, refl, refl)
+returns c = (refl, refl, refl, refl, refl, refl, refl, refl, refl, refl, refl, refl, refl, refl, refl)
