@@ -1,5 +1,5 @@
 -- What the program prints of a line.
-use Rattle.std.specs.Prelude.{ℕ, ◌+◌, ◌/◌, ◌%◌, Bool, true, false, cond, not, ◌&&◌, List, [], ◌∷◌, ◌++◌, Ok, Err, codes, decimal, Result, ◌==◌, nat_le, nat_lt}
+use Rattle.std.specs.Prelude.{ℕ, ◌+◌, ◌/◌, ◌%◌, Bool, cond, not, ◌&&◌, List, [], ◌∷◌, ◌++◌, Ok, Err, codes, decimal, Result, ◌==◌, nat_le, nat_lt}
 use Rattle.std.specs.List.{flat_map}
 use Rattle.calls.specs.declared.call.Action.{Action}
 use Rattle.calls.specs.declared.call.Action.TheVariants.{Begin, Turn, Collect, Abandon}
@@ -27,7 +27,7 @@ use Rattle.lines.specs.Words.{operation}
 abbrev pub head_bits : ℕ
 head_bits = 4
 
--- a byte of a name as it is shown: itself, or \x_h_h if it is not printable or is a backslash
+-- a byte of a name as it is shown: itself, or \xHH if it is not printable or is a backslash
 abbrev pub is_plain : ℕ → Bool
 is_plain b = nat_le 32 b && nat_le b 126 && not (b == 92)
 

@@ -1,4 +1,6 @@
 // Says of each line of standard input what it asks for, or why it is refused.
+#![tactic(auto)]
+
 mod explanation;
 mod show;
 mod tally;

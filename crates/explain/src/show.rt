@@ -65,7 +65,7 @@ fn show_bytes(bytes: &[u8], out: &mut Text)
     }
 }
 
-// The byte itself, or \x_h_h if it is not printable or is a backslash.
+// The byte itself, or \xHH if it is not printable or is a backslash.
 fn show_byte(byte: u8, out: &mut Text)
     ensures { kept out.new ≡ added 256 (kept out.old) (byte_text byte) }
 {

@@ -1,5 +1,5 @@
 -- Items put out one after another.
-use Rattle.std.proofs.Common.{◌≡◌, ℕ, zero, suc, ◌+◌, ◌<◌, List, [], ◌∷◌, length, sym, refl, ap, ◌∙◌, add-one, arith}
+use Rattle.std.proofs.Common.{◌≡◌, ℕ, zero, suc, ◌+◌, ◌<◌, List, [], ◌∷◌, length, sym, refl, ap, ◌∙◌, arith}
 use Rattle.tables.specs.declared.item.Item.{Item}
 use Rattle.tables.specs.Items.{blank_at}
 use Rattle.tables.specs.Lists.{modify}

@@ -1,5 +1,5 @@
 -- The calls keep a record's places in its tables.
-use Rattle.std.proofs.Common.{◌≡◌, ℕ, zero, suc, ◌<◌, Bool, true, false, cond, not, ◌&&◌, ◌||◌, ltb, leb, List, [], ◌∷◌, Some, None, Ok, Err, Option, sym, refl, ap, ◌∙◌, subst, arith}
+use Rattle.std.proofs.Common.{◌≡◌, ℕ, zero, suc, ◌<◌, Bool, true, List, [], ◌∷◌, Some, None, Ok, Option, refl, arith}
 use Rattle.std.proofs.lemmas.Bool.Decides.{nat_tests}
 use Rattle.calls.specs.declared.operation.Operation.{Operation}
 use Rattle.calls.specs.declared.operation.Operation.TheVariants as operation
@@ -15,7 +15,7 @@ use Rattle.tables.specs.Records.{in_session}
 use Rattle.tables.specs.Sessions.{aside_of, at_stage}
 use Rattle.rules.specs.Begin.{job_for, hand_after}
 use Rattle.rules.specs.Free.{first_from, first_free_in, place_after}
-use Rattle.index.specs.Within.{is_below, is_stage_within, is_session_within, are_within, is_within}
+use Rattle.index.specs.Within.{is_below, is_stage_within, are_within, is_within}
 use Rattle.index.proofs.Scans.{after_below}
 
 sessions_within : (n s : ℕ) (stage : Stage) (ss : List Session) → is_stage_within n stage ≡ true → are_within n ss ≡ true → are_within n (modify (at_stage stage) s ss) ≡ true

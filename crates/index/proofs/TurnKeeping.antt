@@ -1,5 +1,5 @@
 -- A turn keeps a record's places in its tables.
-use Rattle.std.proofs.Common.{◌≡◌, ℕ, zero, suc, ◌+◌, ◌<◌, ◌≤◌, Bool, true, false, cond, not, ◌&&◌, ◌||◌, eqb, ltb, leb, List, [], ◌∷◌, Some, None, Ok, Err, Option, Result, sym, refl, ap, ◌∙◌, subst, arith}
+use Rattle.std.proofs.Common.{◌≡◌, ℕ, zero, suc, ◌<◌, Bool, true, false, cond, not, ◌&&◌, ltb, leb, List, [], ◌∷◌, Some, None, Ok, Err, Option, Result, refl, subst, arith}
 use Rattle.std.specs.List.{slice_get}
 use Rattle.std.proofs.lemmas.Bool.Decides.{nat_tests}
 use Rattle.calls.specs.declared.fault.IndexFault.{IndexFault}
@@ -17,21 +17,21 @@ use Rattle.tables.specs.declared.session.Job.{Job}
 use Rattle.tables.specs.declared.session.Job.TheVariants as job
 use Rattle.tables.specs.declared.session.Session.{Session}
 use Rattle.tables.specs.declared.session.Stage.{Stage}
-use Rattle.tables.specs.declared.session.Stage.TheVariants.{Idle, UnderWay, Ended}
+use Rattle.tables.specs.declared.session.Stage.TheVariants.{UnderWay}
 use Rattle.tables.specs.declared.session.Work.{Work}
 use Rattle.tables.specs.declared.session.Work.TheVariants.{Seeking, Replacing, Removing}
 use Rattle.tables.specs.Lists.{modify}
-use Rattle.tables.specs.Reads.{read_next, read_head, head_place}
+use Rattle.tables.specs.Reads.{read_next, head_place}
 use Rattle.tables.specs.Records.{in_session}
-use Rattle.tables.specs.Sessions.{aside_of, job_of, at_stage, ended_as, finds_after}
+use Rattle.tables.specs.Sessions.{aside_of, job_of, ended_as, finds_after}
 use Rattle.std.specs.Option.{ok_or}
 use Rattle.calls.specs.declared.fault.IndexFault.TheVariants.{NotAsMade, NoSession}
 use Rattle.rules.specs.States.{State, is_as_made, seat}
 use Rattle.rings.specs.Between.{between}
 use Rattle.tables.specs.Items.{is_in_ring}
-use Rattle.rules.specs.Decide.{rank, has_rank, looks_ahead, miss_empty, miss_between, claim_with, swing_in, swing_out, head_here, next_of, hit_ahead, on_pair, on_next_item, on_next, on_ring, on_item, on_head, seek, swing_ready, replace_claimed, cut_out, remove_claimed, replace_if, remove_if, decide}
+use Rattle.rules.specs.Decide.{rank, has_rank, looks_ahead, miss_empty, miss_between, claim_with, swing_in, swing_out, head_here, hit_ahead, on_pair, on_next_item, on_next, on_ring, on_item, on_head, seek, swing_ready, replace_claimed, cut_out, remove_claimed, replace_if, remove_if, decide}
 use Rattle.rules.specs.Act.{act}
-use Rattle.index.specs.Within.{is_below, is_stage_within, is_session_within, are_within, is_within}
+use Rattle.index.specs.Within.{is_below, is_stage_within, are_within, is_within}
 use Rattle.index.proofs.Keeping.{stage_within}
 
 -- the places that a move gives its session are below n

@@ -1,5 +1,5 @@
 -- A turn, from its parts.
-use Rattle.std.proofs.Common.{◌≡◌, ℕ, Some, Ok, Result, sym, ap, ◌∙◌}
+use Rattle.std.proofs.Common.{◌≡◌, ℕ, Some, Ok, sym, ap, ◌∙◌}
 use Rattle.std.specs.List.{slice_get}
 use Rattle.calls.specs.declared.reply.Progress.{Progress}
 use Rattle.keys.specs.declared.order.Order.{Order}
@@ -11,7 +11,7 @@ use Rattle.tables.specs.declared.session.Session.{Session}
 use Rattle.tables.specs.declared.session.Stage.TheVariants.{UnderWay}
 use Rattle.tables.specs.declared.session.Work.{Work}
 use Rattle.tables.specs.Sessions.{job_of}
-use Rattle.rules.specs.States.{State, Outcome, seat}
+use Rattle.rules.specs.States.{State, seat}
 use Rattle.rules.specs.Decide.{decide}
 use Rattle.rules.specs.Act.{act}
 use Rattle.rules.specs.Turn.{turn, turn_seat, turn_stage, turn_request, turn_move}

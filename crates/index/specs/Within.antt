@@ -1,10 +1,9 @@
 -- What every record keeps: its places lie in its tables.
-use Rattle.std.specs.Prelude.{ℕ, Bool, true, cond, not, ◌&&◌, ◌||◌, List, [], ◌∷◌, Some, None, Option, nat_le, nat_lt}
+use Rattle.std.specs.Prelude.{ℕ, Bool, true, not, ◌&&◌, ◌||◌, List, [], ◌∷◌, Some, None, Option, nat_le, nat_lt}
 use Rattle.tables.specs.declared.record.Core.{Core}
 use Rattle.tables.specs.declared.session.Session.{Session}
 use Rattle.tables.specs.declared.session.Stage.{Stage}
 use Rattle.tables.specs.declared.session.Stage.TheVariants.{Idle, UnderWay, Ended}
-use Rattle.tables.specs.declared.session.Work.{Work}
 use Rattle.tables.specs.Sessions.{aside_of, cursor_of, claim_of, job_of}
 
 -- no place, or one below n

@@ -1,4 +1,4 @@
-ghost use Rattle.std.specs.Prelude.{◌≡◌, set};
+ghost use Rattle.std.specs.Prelude.{◌≡◌};
 ghost use Rattle.rules.specs.Abandon.{put_out};
 ghost use Rattle.rules.specs.Act.{head_by, pointed_by, written_by, linked, taken_out, answered};
 ghost use Rattle.rules.specs.States.{state};

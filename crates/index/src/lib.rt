@@ -1,5 +1,7 @@
 // An index over ordered rings: its record, and the calls on it. Each call is handed the three tables,
 // and its contract is the step of the rule book.
+#![tactic(auto)]
+
 mod abandon;
 mod acting;
 mod actor;

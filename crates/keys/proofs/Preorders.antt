@@ -1,8 +1,8 @@
 -- What follows from the two laws of an order, for every kind.
-use Rattle.std.proofs.Common.{◌≡◌, ℕ, Bool, true, false, ◌⊎◌, sym, refl, ap, ◌∙◌, inl, inr, arith}
+use Rattle.std.proofs.Common.{◌≡◌, ◌⊎◌, arith}
 use Rattle.keys.specs.declared.order.Order.{Order}
-use Rattle.keys.specs.declared.order.Order.TheVariants.{Before, Alike, After}
-use Rattle.keys.specs.Orders.{Lawful, TotalPreorder, is_before, is_alike, is_after}
+use Rattle.keys.specs.declared.order.Order.TheVariants.{Before, Alike}
+use Rattle.keys.specs.Orders.{Lawful, TotalPreorder}
 
 module _ {K : Type 0} {order : K → K → Order} (laws : Lawful order) where
   alike_itself : (a : K) → order a a ≡ Alike

@@ -1,11 +1,10 @@
 -- The order by rank, over any lawful kind.
-use Rattle.std.proofs.Common.{◌≡◌, ℕ, ◌+◌, ◌-◌, ◌*◌, ◌/◌, ◌%◌, ◌^◌, ◌<◌, ◌≤◌, true, false, sym, refl, ap, ◌∙◌, div-lt_iff_lt-mul, arith, pow_pos, pow-add}
+use Rattle.std.proofs.Common.{◌≡◌, ℕ, ◌+◌, ◌-◌, ◌*◌, ◌^◌, ◌<◌, ◌≤◌, sym, ap, ◌∙◌, div-lt_iff_lt-mul, arith, pow_pos, pow-add}
 use Rattle.std.proofs.lemmas.Bool.Decides.{nat_tests}
 use Rattle.keys.specs.declared.order.Order.{Order}
-use Rattle.keys.specs.declared.order.Order.TheVariants.{Before, Alike, After}
 use Rattle.keys.specs.Hashes.{Hash, bucket, tag}
-use Rattle.keys.specs.Orders.{Lawful, by_number, then_by, is_before, is_after}
-use Rattle.keys.specs.Ranks.{LawfulKind, RankLaws, bucket_of, tag_of, by_rank}
+use Rattle.keys.specs.Orders.{Lawful, by_number, then_by}
+use Rattle.keys.specs.Ranks.{LawfulKind, RankLaws, tag_of}
 
 -- a number first, and then an order: lawful again
 module _ {K : Type 0} {order : K → K → Order} (laws : Lawful order) (number : K → ℕ) where

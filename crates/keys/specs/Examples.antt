@@ -1,6 +1,5 @@
 -- Worked values of the definitions.
 use Rattle.std.specs.Prelude.{◌≡◌, ℕ, List, [], ◌∷◌, codes}
-use Rattle.keys.specs.declared.order.Order.{Order}
 use Rattle.keys.specs.declared.order.Order.TheVariants.{Before}
 use Rattle.keys.specs.Berths.{berth_hash}
 use Rattle.keys.specs.Bytes.{by_bytes, bytes_hash}

@@ -1,5 +1,5 @@
 -- A hash is a number of 16 bits. Its first k bits are its bucket, and the others its tag.
-use Rattle.std.specs.Prelude.{◌≡◌, ℕ, ◌+◌, ◌-◌, ◌*◌, ◌/◌, ◌%◌, ◌^◌, ◌<◌}
+use Rattle.std.specs.Prelude.{ℕ, ◌-◌, ◌/◌, ◌%◌, ◌^◌, ◌<◌}
 use Rattle.std.proofs.Common.{mod-lt, lit<}
 
 -- a number from 0 to 65535

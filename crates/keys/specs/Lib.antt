@@ -6,3 +6,4 @@ pub mod Names
 pub mod Ranks
 pub mod Examples
 pub mod ByteOrder
+pub mod BerthOrder

@@ -1,6 +1,6 @@
 ghost use Rattle.std.specs.Prelude.{◌≡◌};
 ghost use Rattle.keys.specs.Berths.{by_berth, berth_hash};
-ghost use Rattle.std.proofs.Common.{rules};
+ghost use Rattle.keys.specs.BerthOrder.{by_berth_lawful, by_berth_hashed};
 
 use crate::key::Key;
 use crate::order::{Order, compare_numbers};
@@ -17,11 +17,11 @@ impl Key for Berth {
 
     ghost digest = { berth_hash };
 
-    ghost turned = { Prim.search rules };
+    ghost turned = { by_berth_lawful.turned };
 
-    ghost chained = { Prim.search rules };
+    ghost chained = { by_berth_lawful.chained };
 
-    ghost hashed = { Prim.search rules };
+    ghost hashed = { by_berth_hashed };
 
     fn compare(self, other: Berth) -> Order {
         match compare_numbers(self.harbour as u32, other.harbour as u32) {

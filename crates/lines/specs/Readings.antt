@@ -1,5 +1,5 @@
 -- Reading a line field by field, from a place on.
-use Rattle.std.specs.Prelude.{ℕ, ◌+◌, min, Bool, cond, ◌||◌, List, [], length, Ok, Err, Option, Result, ◌==◌, nat_le, nat_lt}
+use Rattle.std.specs.Prelude.{ℕ, ◌+◌, min, Bool, cond, ◌||◌, List, length, Ok, Err, Option, Result, ◌==◌, nat_le, nat_lt}
 use Rattle.std.specs.Option.{ok_or}
 use Rattle.keys.specs.declared.name.Name.{Name as NameKey}
 use Rattle.keys.specs.declared.name.NameFault.{NameFault}

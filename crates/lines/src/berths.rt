@@ -1,6 +1,5 @@
-ghost use Rattle.std.specs.Prelude.{◌≡◌};
+ghost use Rattle.std.specs.Prelude.{◌≡◌, refl};
 ghost use Rattle.lines.specs.Boards.{berth_in, sailing_in};
-ghost use Rattle.std.proofs.Common.{rules};
 
 use crate::board::Board;
 use crate::fault::FieldFault;
@@ -34,7 +33,7 @@ impl Board for BerthBoard {
 
     ghost value_in = { sailing_in };
 
-    ghost counted = { Prim.search rules };
+    ghost counted = { refl };
 
     fn field_count() -> usize {
         Self::BEGIN_FIELDS

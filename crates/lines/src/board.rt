@@ -24,7 +24,7 @@ pub trait Board {
 
     ghost value_in: { Reading Self.Value };
 
-    // BEGIN_FIELDS. A clause cannot name a constant of a trait, so this ties it to `begin_fields`.
+    // BEGIN_FIELDS, tied here to `begin_fields`, which clauses name.
     fn field_count() -> usize
         ensures { result ≡ begin_fields };
 

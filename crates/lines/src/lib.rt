@@ -1,4 +1,6 @@
 // Lines of the boards: fields parted by commas, their faults, and one reader for every board.
+#![tactic(auto)]
+
 pub mod berths;
 pub mod board;
 mod call;

@@ -1,7 +1,6 @@
-ghost use Rattle.std.specs.Prelude.{◌≡◌};
+ghost use Rattle.std.specs.Prelude.{◌≡◌, refl};
 ghost use Rattle.lines.specs.Boards.{berth_number_in};
 ghost use Rattle.lines.specs.Readings.{name_in};
-ghost use Rattle.std.proofs.Common.{rules};
 
 use crate::board::Board;
 use crate::fault::FieldFault;
@@ -28,7 +27,7 @@ impl Board for ShipBoard {
 
     ghost value_in = { berth_number_in };
 
-    ghost counted = { Prim.search rules };
+    ghost counted = { refl };
 
     fn field_count() -> usize {
         Self::BEGIN_FIELDS

@@ -64,7 +64,7 @@ module _ {K V : Type 0} {order rank : K → K → Order} {bucket : K → ℕ} {p
         gifts = changed_elsewhere s t.value v.gift;
         cursors = λ u c differs i.
             let other : aside ≡ Some c → ⊥ = λ a. (free c a).untrodden u i in
-            record { set_aside = λ a. sym (state-rest c other) ∙ a; all_in_ring = λ a. sym (state-rest c other) ∙ a; key = λ a. key-rest c other };
+            record { set_aside = λ a. sym (state-rest c other) ∙ a; in_ring = λ a. sym (state-rest c other) ∙ a; key = λ a. key-rest c other };
         asides = λ u x differs i.
             let set = k.aside_state u x i in
             let other = not_free x (λ o. let z : ◌≡◌ {A = ℕ} 0 1 = cc in omega arith) in

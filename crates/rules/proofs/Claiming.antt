@@ -48,7 +48,7 @@ module _ {K V : Type 0} {order rank : K → K → Order} {bucket : K → ℕ} {p
         stages = changed_elsewhere s (UnderWay work') v.stage;
         wants = λ t differs. refl;
         gifts = λ t differs. refl;
-        cursors = λ t c differs i. record { set_aside = λ a. a; all_in_ring = λ a. a; key = λ a. refl };
+        cursors = λ t c differs i. record { set_aside = λ a. a; in_ring = λ a. a; key = λ a. refl };
         asides = λ t x differs i. record { state = refl; key = refl; value = refl; next = rest x (λ j. differs (k.aside_apart t s x i j)) };
         claims = λ t p differs i. record {
           state = refl;

@@ -125,8 +125,8 @@ module _ {K V : Type 0} (order : K → K → Order) (digest : K → Hash) (laws 
     stands = ap state_in at ∙ ringed
 
     -- it lies in the key's bucket
-    all_in_bucket : bucket (w.key c) ≡ bucket (w.want s)
-    all_in_bucket = kept.cursor_bucket s c (ap cursor_at under_way) stands
+    in_bucket : bucket (w.key c) ≡ bucket (w.want s)
+    in_bucket = kept.cursor_bucket s c (ap cursor_at under_way) stands
 
     -- the item stood on has the key
     present_here : looks_ahead j ≡ false → has_rank order digest st r.key it.key ≡ true → Done (Seeking j (Some c)) (Ok (Present c it.value))
@@ -164,7 +164,7 @@ module _ {K V : Type 0} (order : K → K → Order) (digest : K → Hash) (laws 
       missed : between rank it.key r.key nx.key ≡ true → (p : ℕ) → w.state p ≡ InRing → order (w.key p) (w.want s) ≡ Alike → ⊥
       missed falls p p-in alike =
           let kind = kind_of order digest laws st.core.bits in
-          miss_is_right kind.ranked bucket (λ a b h. kind.one_bucket a b (kind.same_rank a b h)) (rings_of w) c (w.want s) kept.rings (ap is_in_ring stands) all_in_bucket
+          miss_is_right kind.ranked bucket (λ a b h. kind.one_bucket a b (kind.same_rank a b h)) (rings_of w) c (w.want s) kept.rings (ap is_in_ring stands) in_bucket
           (ap (λ m. between rank (w.key c) (w.want s) (w.key m)) leads ∙ falls_here falls) p (ap is_in_ring p-in) (kind.rank_same _ _ alike)
 
       -- the work, by its job
@@ -212,7 +212,7 @@ module _ {K V : Type 0} (order : K → K → Order) (digest : K → Hash) (laws 
       pair_decided = go (looks_ahead j) refl (has_rank order digest st r.key nx.key) refl (between rank it.key r.key nx.key) refl
         where
           onward : bucket (w.key it.next) ≡ bucket (w.want s)
-          onward = ap (λ p. bucket (w.key p)) (sym leads) ∙ kept.rings.next_in_bucket c (ap is_in_ring stands) ∙ all_in_bucket
+          onward = ap (λ p. bucket (w.key p)) (sym leads) ∙ kept.rings.next_in_bucket c (ap is_in_ring stands) ∙ in_bucket
 
           further : (b : Bool) → between rank it.key r.key nx.key ≡ b → Done (Seeking j (Some c)) (cond b (Ok (miss_between j (c, it.next) it)) (Ok (Step it.next)))
           further true falls = miss_decided j refl falls

@@ -67,7 +67,7 @@ pub record Shared {K V : Type 0} (w : Whole K V) : Type 0 where
 module _ {K V : Type 0} (v w : Whole K V) (p : ℕ) where
   pub record CursorStays : Type 0 where
     pub set_aside : w.state p ≡ SetAside → v.state p ≡ SetAside
-    pub all_in_ring : w.state p ≡ InRing → v.state p ≡ InRing
+    pub in_ring : w.state p ≡ InRing → v.state p ≡ InRing
     pub key : w.state p ≡ InRing → w.key p ≡ v.key p
 
   pub record AsideStays : Type 0 where
@@ -252,7 +252,7 @@ module _ {K V : Type 0} {order : K → K → Order} {bucket : K → ℕ} {plain 
         cursor_state = λ c i a. o.cursor_state c (sym cursor ∙ i) ((f.cursors t c other (sym cursor ∙ i)).set_aside a);
         cursor_bucket = λ c i r.
             let st = f.cursors t c other (sym cursor ∙ i) in
-            ap bucket (st.key r) ∙ o.cursor_bucket c (sym cursor ∙ i) (st.all_in_ring r) ∙ ap bucket (sym want);
+            ap bucket (st.key r) ∙ o.cursor_bucket c (sym cursor ∙ i) (st.in_ring r) ∙ ap bucket (sym want);
         aside_state = λ x i. (f.asides t x other (sym aside ∙ i)).state ∙ o.aside_state x (sym aside ∙ i);
         aside_key = λ x i. (f.asides t x other (sym aside ∙ i)).key ∙ o.aside_key x (sym aside ∙ i) ∙ sym want;
         aside_value = λ x i. (f.asides t x other (sym aside ∙ i)).value ∙ o.aside_value x (sym aside ∙ i) ∙ sym gift;

@@ -1,11 +1,10 @@
 -- What is true of a state in which a turn has decided on a move: the grounds on which the move may be
 -- made. s is the session, and its work is under way.
-use Rattle.std.proofs.Common.{◌≡◌, ℕ, ◌<◌, Bool, true, false, cond, eqb, ◌⊎◌, Some, None, Option}
+use Rattle.std.proofs.Common.{◌≡◌, ℕ, true, false, cond, eqb, ◌⊎◌, Some, None}
 use Rattle.keys.specs.declared.order.Order.{Order}
 use Rattle.keys.specs.declared.order.Order.TheVariants.{Alike}
 use Rattle.rings.specs.Between.{between}
-use Rattle.tables.specs.declared.item.ItemState.TheVariants.{Out, SetAside, InRing}
-use Rattle.tables.specs.declared.moves.HeadMove.{HeadMove}
+use Rattle.tables.specs.declared.item.ItemState.TheVariants.{InRing}
 use Rattle.tables.specs.declared.moves.Move.{Move}
 use Rattle.tables.specs.declared.moves.Move.TheVariants.{Step, Leave, GiveUp, Wait, ClaimToReplace, ClaimToRemove, Absent, LinkAlone, Link, Present, SwingIn, SwingOut}
 use Rattle.tables.specs.declared.session.Job.{Job}

@@ -1,10 +1,7 @@
 -- There are runs: calls that are played are a run, and the worked day is one, with its plain table and its ring.
-use Rattle.std.proofs.Common.{◌≡◌, ℕ, List, [], ◌∷◌, ◌++◌, map, Some, Result, sym, refl, ap, ◌∙◌, subst, inl, inr, arith, lit<}
+use Rattle.std.proofs.Common.{◌≡◌, ℕ, List, [], ◌∷◌, ◌++◌, map, Some, sym, refl, ap, ◌∙◌, subst, inl, inr, arith, lit<}
 use Rattle.std.specs.List.{slice_get}
 use Rattle.std.proofs.lemmas.Bool.Decides.{nat_tests}
-use Rattle.calls.specs.declared.call.Call.{Call}
-use Rattle.calls.specs.declared.fault.IndexFault.{IndexFault}
-use Rattle.calls.specs.declared.reply.Reply.{Reply}
 use Rattle.keys.specs.declared.berth.Berth.{Berth}
 use Rattle.keys.specs.declared.order.Order.{Order}
 use Rattle.keys.specs.Berths.{by_berth, berth_hash}

@@ -14,7 +14,7 @@ use Rattle.rules.specs.Making.{make}
 use Rattle.rules.specs.Collect.{collect}
 use Rattle.rules.specs.Plain.{Plain}
 use Rattle.rules.specs.Runs.{Event, Run, new, more, plain_after, recorded}
-use Rattle.rules.specs.RunLaw.{Collects, Answers, FullAt, Full, Sound, RunLaw, GoesOn, Starts, Replays}
+use Rattle.rules.specs.RunLaw.{Collects, Answers, FullAt, Full, RunLaw, GoesOn, Starts, Replays}
 use Rattle.rules.specs.Steps.{step, step_by, played, replied}
 use Rattle.rules.proofs.Invariant.{Inv}
 use Rattle.rules.proofs.AnswersFromInvariant.{answers_noted, noted_answers}

@@ -1,5 +1,5 @@
 -- The two moves that link the item set aside by an insert: alone in its bucket, or behind an item of its ring.
-use Rattle.std.proofs.Common.{◌≡◌, ℕ, suc, Bool, true, false, Some, None, Option, sym, refl, ap, ◌∙◌, subst, inl, inr, arith}
+use Rattle.std.proofs.Common.{◌≡◌, ℕ, suc, Bool, true, false, Some, None, Option, sym, refl, ap, ◌∙◌, subst, arith}
 use Rattle.std.proofs.lemmas.Bool.{cases_eq}
 use Rattle.std.proofs.lemmas.Bool.Decides.{nat_tests}
 use Rattle.calls.specs.declared.operation.Operation.TheVariants as operation
@@ -74,7 +74,7 @@ module _ {K V : Type 0} {order rank : K → K → Order} {bucket : K → ℕ} (k
         stage = grind (arith, nat_tests);
         note = let none = was_absent in grind (arith, nat_tests);
         in_use = λ p h z. let d = cases_eq p x in grind (arith, nat_tests);
-        all_in_ring = λ p i h. let d = cases_eq p x in grind (arith, nat_tests);
+        in_ring = λ p i h. let d = cases_eq p x in grind (arith, nat_tests);
         set_aside = λ p i. (grind (arith, nat_tests), λ z. grind (arith, nat_tests));
         marked = λ p i. (i, λ z. grind (arith, nat_tests));
         aside_stays = λ t y far h.

@@ -47,7 +47,7 @@ module _ {K V : Type 0} {order rank : K → K → Order} {bucket : K → ℕ} {p
         stages = changed_elsewhere s (UnderWay (Seeking (job_of work) cursor)) v.stage;
         wants = λ t differs. refl;
         gifts = λ t differs. refl;
-        cursors = λ t c differs i. record { set_aside = λ a. a; all_in_ring = λ a. a; key = λ a. refl };
+        cursors = λ t c differs i. record { set_aside = λ a. a; in_ring = λ a. a; key = λ a. refl };
         asides = λ t x differs i. record { state = refl; key = refl; value = refl; next = refl };
         claims = λ t p differs i. record { state = refl; key = refl; next = refl; mark = rest p (other_claim t p differs i) };
       })

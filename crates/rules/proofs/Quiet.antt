@@ -92,7 +92,7 @@ revalued_frame values heads k asides s = record {
   stages = λ t differs. refl;
   wants = λ t differs. refl;
   gifts = λ t differs. refl;
-  cursors = λ t c differs i. record { set_aside = λ a. a; all_in_ring = λ a. a; key = λ a. refl };
+  cursors = λ t c differs i. record { set_aside = λ a. a; in_ring = λ a. a; key = λ a. refl };
   asides = λ t x differs i. record { state = refl; key = refl; value = asides x (k.aside_state t x i); next = refl };
   claims = λ t p differs i. record { state = refl; key = refl; next = refl; mark = refl };
 }

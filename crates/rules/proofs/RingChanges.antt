@@ -46,7 +46,7 @@ pub record Ending {K V : Type 0} (plain after : Plain K V) (v w : Whole K V) (s 
   pub stage : w.stage s ≡ Ended operation present
   pub note : after.notes s ≡ answer (cond present (Some (w.gift s)) None)
   pub in_use : (p : ℕ) → (w.state p ≡ Out → ⊥) → v.state p ≡ Out → ⊥
-  pub all_in_ring : (p : ℕ) → w.state p ≡ InRing → (v.state p ≡ SetAside → ⊥) → v.state p ≡ InRing
+  pub in_ring : (p : ℕ) → w.state p ≡ InRing → (v.state p ≡ SetAside → ⊥) → v.state p ≡ InRing
   pub set_aside : (p : ℕ) → w.state p ≡ SetAside → (v.state p ≡ SetAside) × (aside_at (v.stage s) ≡ Some p → ⊥)
   pub marked : (p : ℕ) → w.mark p ≡ true → (v.mark p ≡ true) × (claim_at (v.stage s) ≡ Some p → ⊥)
   pub aside_stays : (t x : ℕ) → (t ≡ s → ⊥) → aside_at (v.stage t) ≡ Some x → w.state x ≡ SetAside
@@ -64,7 +64,7 @@ module _ {K V : Type 0} {order rank : K → K → Order} {bucket : K → ℕ} {p
     stages = e.stages;
     wants = λ t far. e.wants t;
     gifts = e.gifts;
-    cursors = λ t c far h. record { set_aside = λ i. (e.set_aside c i).0; all_in_ring = λ i. e.all_in_ring c i (k.cursor_state t c h); key = λ i. e.keys c };
+    cursors = λ t c far h. record { set_aside = λ i. (e.set_aside c i).0; in_ring = λ i. e.in_ring c i (k.cursor_state t c h); key = λ i. e.keys c };
     asides = λ t x far h. record {
       state = e.aside_stays t x far h ∙ sym (k.aside_state t x h);
       key = e.keys x;

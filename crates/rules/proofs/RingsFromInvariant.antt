@@ -67,7 +67,7 @@ module _ {K V : Type 0} (order : K → K → Order) (digest : K → Hash) (laws 
             let is = there.1 in
             let here = r.all_in_bucket p i in
             let held = kept.held p (ap state_in is ∙ there.2) in
-            record { item = there.0; there = is; all_in_ring = there.2; all_in_bucket = cc; in_table = cc };
+            record { item = there.0; there = is; in_ring = there.2; in_bucket = cc; in_table = cc };
         all = λ x v here has.
             let k = kept.known x v has in
             let alike = k.2 in

@@ -67,7 +67,7 @@ module _ {K V : Type 0} {order rank : K → K → Order} {bucket : K → ℕ} {p
         gifts = others;
         cursors = λ t c differs i. record {
           set_aside = λ a. sym (as_was c (λ o. let z : ◌≡◌ {A = ℕ} 0 1 = cc in omega arith)) ∙ a;
-          all_in_ring = λ a. sym (as_was c (λ o. let z : ◌≡◌ {A = ℕ} 0 1 = cc in omega arith)) ∙ a;
+          in_ring = λ a. sym (as_was c (λ o. let z : ◌≡◌ {A = ℕ} 0 1 = cc in omega arith)) ∙ a;
           key = λ a. refl;
         };
         asides = λ t x differs i. record { state = in_place x (λ j. differs (k.aside_apart t s x i j)); key = refl; value = refl; next = refl };

@@ -125,7 +125,7 @@ module _ {K V : Type 0} {order rank : K → K → Order} {bucket : K → ℕ} (k
               let d = cases_eq q p in
               let a = holds_cases (aside_at (v.stage s)) q in
               grind arith;
-          all_in_ring = λ q h z.
+          in_ring = λ q h z.
               let i = k.aside_state s q in
               let e = others q in
               let d = cases_eq q p in

@@ -1,5 +1,5 @@
 -- The state of an index by place, by session and by bucket, and what each move changes of it.
-use Rattle.std.proofs.Common.{◌≡◌, ℕ, Bool, true, false, cond, eqb, ltb, List, Some, None, Option}
+use Rattle.std.proofs.Common.{◌≡◌, ℕ, Bool, true, false, cond, eqb, Some, None, Option}
 use Rattle.std.specs.List.{slice_get}
 use Rattle.calls.specs.declared.call.Task.{Task}
 use Rattle.rings.specs.Rings.{View}

@@ -1,9 +1,8 @@
 -- What a turn does with what it decided. It writes and never refuses. Where two parts of a damaged
 -- index name one place, the writes fall in the order in which they are nested here, the innermost first.
-use Rattle.std.specs.Prelude.{ℕ, ◌+◌, Bool, true, false, cond, List, set, is_some, Some, None, Option, nat_lt, slice_set}
+use Rattle.std.specs.Prelude.{ℕ, true, false, cond, List, is_some, Some, None, Option, nat_lt, slice_set}
 use Rattle.calls.specs.declared.reply.Progress.{Progress}
 use Rattle.calls.specs.declared.reply.Progress.TheVariants as progress
-use Rattle.keys.specs.Hashes.{Hash}
 use Rattle.tables.specs.declared.item.Item.{Item}
 use Rattle.tables.specs.declared.item.ItemState.TheVariants.{Out, InRing}
 use Rattle.tables.specs.declared.moves.HeadMove.{HeadMove}
@@ -13,8 +12,7 @@ use Rattle.tables.specs.declared.moves.Move.TheVariants.{Step, Leave, GiveUp, Wa
 use Rattle.tables.specs.declared.request.Request.{Request}
 use Rattle.tables.specs.declared.session.Job.{Job}
 use Rattle.tables.specs.declared.session.Job.TheVariants.{Find, Insert, Write, Replace, Remove, Point}
-use Rattle.tables.specs.declared.session.Session.{Session}
-use Rattle.tables.specs.declared.session.Stage.TheVariants.{UnderWay, Ended}
+use Rattle.tables.specs.declared.session.Stage.TheVariants.{UnderWay}
 use Rattle.tables.specs.declared.session.Work.{Work}
 use Rattle.tables.specs.declared.session.Work.TheVariants.{Seeking, Replacing, Removing}
 use Rattle.tables.specs.Items.{with_state, with_next, with_mark, with_value, with_answer}

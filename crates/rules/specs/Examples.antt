@@ -18,7 +18,6 @@ use Rattle.keys.specs.Berths.{by_berth, berth_hash}
 use Rattle.tables.specs.declared.item.Item.{Item}
 use Rattle.tables.specs.declared.item.ItemState.{ItemState}
 use Rattle.tables.specs.declared.item.ItemState.TheVariants.{Out, SetAside, InRing}
-use Rattle.tables.specs.declared.request.Request.{Request}
 use Rattle.tables.specs.Reads.{none}
 use Rattle.rules.specs.States.{State, state}
 use Rattle.rules.specs.Making.{new_core, make}

@@ -18,11 +18,11 @@ abbrev pub pointed : List Answered
 pointed = begins 0 Point 2 0 ∷ moves 0 ∷ moves 0 ∷ ends 0 ∷ answers 0 (Some 20) ∷ []
 
 -- session s finds berth 1, from the head at place 1
-abbrev pub found : ℕ → List Answered
-found s = begins s Find 1 0 ∷ moves s ∷ moves s ∷ ends s ∷ answers s (Some 10) ∷ []
+abbrev pub found_once : ℕ → List Answered
+found_once s = begins s Find 1 0 ∷ moves s ∷ moves s ∷ ends s ∷ answers s (Some 10) ∷ []
 
 abbrev pub found_four_times : ℕ → List Answered
-found_four_times s = found s ++ found s ++ found s ++ found s
+found_four_times s = found_once s ++ found_once s ++ found_once s ++ found_once s
 
 -- session s finds no berth 4
 abbrev pub found_none : ℕ → List Answered
@@ -47,13 +47,13 @@ finds_of st s = option_map (λ session. session.finds) (slice_get st.core.sessio
 
 abbrev pub FurtherDays : Type 0
 FurtherDays =
-    Plays (two_berths ++ pointed ++ found_four_times 2 ++ found 2)
+    Plays (two_berths ++ pointed ++ found_four_times 2 ++ found_once 2)
     -- point moves the head, four finds do not, and the fifth does
     × ((after (two_berths ++ pointed)).heads ≡ 1 ∷ [])
     × ((after (two_berths ++ pointed ++ found_four_times 2)).heads ≡ 1 ∷ [])
     × (finds_of (after (two_berths ++ pointed ++ found_four_times 2)) 2 ≡ Some 4)
-    × ((after (two_berths ++ pointed ++ found_four_times 2 ++ found 2)).heads ≡ 0 ∷ [])
-    × (finds_of (after (two_berths ++ pointed ++ found_four_times 2 ++ found 2)) 2 ≡ Some 0)
+    × ((after (two_berths ++ pointed ++ found_four_times 2 ++ found_once 2)).heads ≡ 0 ∷ [])
+    × (finds_of (after (two_berths ++ pointed ++ found_four_times 2 ++ found_once 2)) 2 ≡ Some 0)
     -- a fifth find that misses moves no head, and counts
     × Plays (two_berths ++ pointed ++ found_four_times 3 ++ found_none 3)
     × ((after (two_berths ++ pointed ++ found_four_times 3 ++ found_none 3)).heads ≡ 1 ∷ [])

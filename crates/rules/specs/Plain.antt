@@ -1,7 +1,7 @@
 -- The plain table: what an index means. It goes from keys to values, and notes for each session the
 -- task that it has begun, or the answer of one that has ended. It is fed the calls with their
 -- arguments, whether each was refused, and whether a turn said ended, and nothing else.
-use Rattle.std.specs.Prelude.{◌≡◌, ℕ, Bool, cond, List, [], ◌∷◌, Some, None, Ok, Err, Option, Result, ◌==◌}
+use Rattle.std.specs.Prelude.{◌≡◌, ℕ, cond, List, [], ◌∷◌, Some, None, Ok, Err, Option, Result, ◌==◌}
 use Rattle.calls.specs.declared.call.Action.{Action}
 use Rattle.calls.specs.declared.call.Action.TheVariants.{Begin, Turn, Collect, Abandon}
 use Rattle.calls.specs.declared.call.Call.{Call}

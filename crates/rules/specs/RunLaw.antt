@@ -8,9 +8,9 @@ use Rattle.calls.specs.declared.call.Action.TheVariants.{Begin, Turn, Collect, A
 use Rattle.calls.specs.declared.call.Call.{Call}
 use Rattle.calls.specs.declared.call.Task.{Task}
 use Rattle.calls.specs.declared.fault.IndexFault.{IndexFault}
-use Rattle.calls.specs.declared.fault.IndexFault.TheVariants.{HeadBits, TableLengths, NotAsMade, NoSession, NotIdle, NoPlace, Idle, Ended, UnderWay, OutsideTable}
+use Rattle.calls.specs.declared.fault.IndexFault.TheVariants.{NoPlace}
 use Rattle.calls.specs.declared.reply.Reply.{Reply}
-use Rattle.calls.specs.declared.reply.Reply.TheVariants.{Begun, Turned, Collected, Abandoned}
+use Rattle.calls.specs.declared.reply.Reply.TheVariants.{Collected}
 use Rattle.keys.specs.declared.order.Order.{Order}
 use Rattle.keys.specs.declared.order.Order.TheVariants.{Alike}
 use Rattle.keys.specs.Hashes.{Hash}
@@ -23,7 +23,7 @@ use Rattle.tables.specs.Reads.{head_word}
 use Rattle.rules.specs.States.{State}
 use Rattle.rules.specs.Begin.{begin}
 use Rattle.rules.specs.Collect.{collect}
-use Rattle.rules.specs.Plain.{Plain, Note, nothing, asked, answer, found, Apart}
+use Rattle.rules.specs.Plain.{Plain, answer, found, Apart}
 use Rattle.rules.specs.Runs.{Event, Run, plain_after, recorded}
 
 -- the first of a list of places, if there is one
@@ -62,8 +62,8 @@ module _ {K V : Type 0} (order : K → K → Order) (digest : K → Hash) where
   pub record Entry (st : State K V) (plain : Plain K V) (bucket p : ℕ) : Type 0 where
     pub item : Item K V
     pub there : slice_get st.items p ≡ Some item
-    pub all_in_ring : item.state ≡ InRing
-    pub all_in_bucket : bucket_of order digest st.core.bits item.key ≡ bucket
+    pub in_ring : item.state ≡ InRing
+    pub in_bucket : bucket_of order digest st.core.bits item.key ≡ bucket
     pub in_table : found order item.key plain.entries ≡ Some item.value
 
   -- the item at a place has a key alike to x

@@ -1,6 +1,6 @@
 -- The state of an index: its record and its three tables. Every call answers a reply or a fault, and
 -- leaves a state.
-use Rattle.std.specs.Prelude.{ℕ, ◌^◌, Bool, cond, ◌&&◌, List, length, Ok, Err, Result, ◌==◌}
+use Rattle.std.specs.Prelude.{ℕ, ◌^◌, Bool, cond, ◌&&◌, List, length, Err, Result, ◌==◌}
 use Rattle.std.specs.List.{slice_get}
 use Rattle.std.specs.Option.{ok_or}
 use Rattle.calls.specs.declared.fault.IndexFault.{IndexFault}

@@ -1,5 +1,5 @@
 -- What a session is about.
-use Rattle.std.specs.Prelude.{◌≡◌, ℕ, ◌+◌, Bool, cond, Some, None, Option, nat_lt}
+use Rattle.std.specs.Prelude.{ℕ, ◌+◌, Bool, cond, Some, None, Option, nat_lt}
 use Rattle.calls.specs.declared.operation.Operation.{Operation}
 use Rattle.calls.specs.declared.operation.Operation.TheVariants as operation
 use Rattle.tables.specs.declared.session.Job.{Job}
@@ -7,7 +7,7 @@ use Rattle.tables.specs.declared.session.Job.TheVariants.{Find, Insert, Write, R
 use Rattle.tables.specs.declared.session.Work.{Work}
 use Rattle.tables.specs.declared.session.Work.TheVariants.{Seeking, Replacing, Removing}
 use Rattle.tables.specs.declared.session.Stage.{Stage}
-use Rattle.tables.specs.declared.session.Stage.TheVariants.{Idle, UnderWay, Ended}
+use Rattle.tables.specs.declared.session.Stage.TheVariants.{Idle, Ended}
 use Rattle.tables.specs.declared.session.Session.{Session}
 
 abbrev pub operation_of : Job → Operation

@@ -1,5 +1,7 @@
 // The data of an index: items, requests, sessions and the plain part of its record; each read and
 // each write of a table has a function of its own.
+#![tactic(auto)]
+
 pub mod heads;
 pub mod item;
 pub mod items;

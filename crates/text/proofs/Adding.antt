@@ -2,9 +2,11 @@
 use Rattle.std.proofs.Common.{◌≡◌, ℕ, ◌+◌, ◌-◌, ◌<◌, ◌≤◌, min, List, [], ◌∷◌, ◌++◌, length, take, set, sym, ap, ◌∙◌, inl, inr, arith}
 use lib.Seq.{take-append-add}
 use Rattle.std.proofs.lemmas.Bool.{cases_lt}
-use Rattle.std.proofs.lemmas.List.{take_more_set, take_all, take-append-le, take-take, length_push, length-take-le, length-append, length-take, append_assoc, append-nil}
+use Rattle.std.proofs.lemmas.List.{take_more_set, take_all, take-append-le, take-take, length_push, length-take-le, length-take, append_assoc, append-nil}
+use Rattle.text.specs.declared.line.Line.{Line}
 use Rattle.text.specs.declared.text.Text.{Text}
 use Rattle.text.specs.Kept.{kept, added}
+use Rattle.text.specs.KeptLines.{kept_line}
 
 take_min : (k : ℕ) (xs : List ℕ) → take (min (length xs) k) xs ≡ take k xs
 take_min k xs =
@@ -57,3 +59,6 @@ added_nothing t =
 -- what is added, by another name
 pub added_as : (n : ℕ) (t : List ℕ) {u a b : List ℕ} → u ≡ added n t a → a ≡ b → u ≡ added n t b
 added_as n t p e = p ∙ ap (added n t) e
+
+pub line_short : (l : Line) → length (kept_line l) ≤ 81
+line_short l = omega (arith, length-take l.len l.bytes, l.within)

@@ -1,7 +1,7 @@
 ghost use Rattle.std.specs.Prelude.{◌≡◌, ◌≤◌, List, [], ◌∷◌, take};
 ghost use Rattle.text.specs.Kept.{added};
 
-use crate::buffer::put_byte;
+use crate::buffer::{put_byte, put_bytes};
 
 // The line that is being read: its first 81 bytes, one more than a line may have, so that a longer
 // one is told from one that just fits.
@@ -32,6 +32,13 @@ impl Line {
         ensures { take self.new.len self.new.bytes ≡ [] }
     {
         self.len = 0;
+    }
+
+    // As many bytes more as there is room for.
+    pub fn push_bytes(&mut self, more: &[u8])
+        ensures { take self.new.len self.new.bytes ≡ added 81 (take self.old.len self.old.bytes) more.now }
+    {
+        self.len = put_bytes(&mut self.bytes, self.len, more);
     }
 
     // One byte more, unless there are 81 already.

@@ -1,4 +1,6 @@
 // Tables of cases over keys, operations, lines and the index.
+#![tactic(auto)]
+
 #[cfg(test)]
 mod index_cases;
 #[cfg(test)]

@@ -5,11 +5,11 @@ use Rattle.explain.proofs.explanation.explain_fault.Goals as goal
 pub returns : goal.returns
 returns c =
     added_both _ _ _ _ (added_both _ _ _ _ (added_both _ _ _ _ (added_both _ _ _ _ (added_both _ _ _ _ (added_both _ _ _ _ (added_both _ _ _ _
-    c.push-bytes.ensures
-    (added_as _ _ c.push-number.ensures (ap decimal c.number.ensures)))
-    c.push-bytes-2.ensures)
-    (added_as _ _ c.push-number-2.ensures (ap (λ p. decimal p.field) c.place-place.ensures)))
-    c.push-bytes-3.ensures)
-    (added_as _ _ c.push-number-3.ensures (ap (λ p. decimal p.byte) c.place-place.ensures)))
-    c.push-bytes-4.ensures)
-    (added_as _ _ c.push-bytes-5.ensures c.reason-words.ensures)
+    c.push_bytes.ensures
+    (added_as _ _ c.push_number.ensures (ap decimal c.number.ensures)))
+    c.push_bytes-2.ensures)
+    (added_as _ _ c.push_number-2.ensures (ap (λ p. decimal p.field) c.place-place.ensures)))
+    c.push_bytes-3.ensures)
+    (added_as _ _ c.push_number-3.ensures (ap (λ p. decimal p.byte) c.place-place.ensures)))
+    c.push_bytes-4.ensures)
+    (added_as _ _ c.push_bytes-5.ensures c.reason_words.ensures)

@@ -6,11 +6,11 @@ use Rattle.explain.proofs.explanation.explain_task.Goals as goal
 pub returns : goal.returns
 returns g c =
     added_both _ _ _ _ (added_both _ _ _ _ (added_both _ _ _ _ (added_both _ _ _ _ (added_both _ _ _ _ (added_both _ _ _ _ (added_both _ _ _ _
-    c.push-bytes.ensures
-    (added_as _ _ c.push-bytes-2.ensures c.operation-word.ensures))
-    c.push-bytes-3.ensures)
+    c.push_bytes.ensures
+    (added_as _ _ c.push_bytes-2.ensures c.operation_word.ensures))
+    c.push_bytes-3.ensures)
     c.show.ensures)
-    c.push-bytes-4.ensures)
+    c.push_bytes-4.ensures)
     c.show-2.ensures)
-    c.push-bytes-5.ensures)
-    (added_as _ _ c.explain-place.ensures (ap place_text c.hash.ensures))
+    c.push_bytes-5.ensures)
+    (added_as _ _ c.explain_place.ensures (ap place_text c.hash.ensures))

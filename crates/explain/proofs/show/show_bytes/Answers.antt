@@ -1,4 +1,4 @@
-use Rattle.std.proofs.Common.{◌≡◌, ℕ, ◌+◌, ◌<◌, List, [], ◌∷◌, ◌++◌, length, get_or, take, sym, ap, ◌∙◌, arith}
+use Rattle.std.proofs.Common.{◌≡◌, ℕ, ◌+◌, ◌<◌, List, [], ◌++◌, length, get_or, take, sym, ap, ◌∙◌, arith}
 use Rattle.std.specs.List.{flat_map}
 use Rattle.std.proofs.lemmas.List.{take_more, take_all, flat_map_more}
 use Rattle.text.specs.Kept.{kept, added}
@@ -15,7 +15,7 @@ loop-b-init c = added_nothing c.args.out.now
 
 pub loop-b-preserved : goal.loop-b-preserved
 loop-b-preserved c =
-    added_both _ _ _ _ c.loop-b.invariant c.show-byte.ensures
+    added_both _ _ _ _ c.loop-b.invariant c.show_byte.ensures
     ∙ ap (added 256 (kept c.args.out.now)) (shown_more c.args.bytes.now c.loop-b.b-index c.loop-b-test.true)
 
 pub returns : goal.returns

@@ -4,15 +4,15 @@ use Rattle.rules.specs.Free.{is_stood_on}
 use Rattle.index.proofs.Scans.{stood_more, stood_hit}
 use Rattle.index.proofs.free.is_stood_on.Goals as goal
 
-pub returns-then-stands-on : goal.returns-then-stands-on
-returns-then-stands-on c =
+pub returns-then-stands_on : goal.returns-then-stands_on
+returns-then-stands_on c =
     let l = c.loop-session in
-    sym (sym l.invariant ∙ stood_hit c.args.place c.args.sessions.now l.session-index _ c.loop-session-test.true (sym c.if-stands-on.ensures))
+    sym (sym l.invariant ∙ stood_hit c.args.place c.args.sessions.now l.session-index _ c.loop-session-test.true (sym c.if-stands_on.ensures))
 
 pub loop-session-preserved : goal.loop-session-preserved
 loop-session-preserved c =
     let l = c.loop-session in
-    stood_more c.args.place c.args.sessions.now l.session-index _ c.loop-session-test.true (sym c.if-stands-on.ensures) ∙ l.invariant
+    stood_more c.args.place c.args.sessions.now l.session-index _ c.loop-session-test.true (sym c.if-stands_on.ensures) ∙ l.invariant
 
 pub returns : goal.returns
 returns c =

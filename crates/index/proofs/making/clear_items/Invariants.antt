@@ -1,4 +1,4 @@
-use Rattle.std.proofs.Common.{◌≡◌, ◌≤◌, length}
+use Rattle.std.proofs.Common.{◌≡◌}
 use Rattle.index.proofs.Clearing.{cleared}
 use Rattle.index.proofs.making.clear_items.Given as goal
 

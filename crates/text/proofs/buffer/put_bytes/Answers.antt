@@ -17,6 +17,6 @@ pub returns : goal.returns
 returns c =
     let args = c.args in
     record {
-      after = written args.len c.min.result _ _ args.buffer.now args.more.now c.copy-from-slice.new.self c.requires c.min.ensures c.copy-from-slice.ensures.after (omega arith) (omega arith);
+      after = written args.len c.min.result _ _ args.buffer.now args.more.now c.copy_from_slice.new.self c.requires c.min.ensures c.copy_from_slice.ensures.after (omega arith) (omega arith);
       bound = search rules;
     }

@@ -1,4 +1,4 @@
-use Rattle.std.proofs.Common.{◌≡◌, ◌^◌, ◌<◌, ◌≤◌, ◌++◌, length, decimal, ap, ◌∙◌, arith, rules}
+use Rattle.std.proofs.Common.{◌++◌, decimal, ap, ◌∙◌, arith}
 use Rattle.std.proofs.lemmas.List.{append-nil, drop_all}
 use Rattle.text.proofs.Decimals.{room_more, digit_more, digit_first}
 use Rattle.text.proofs.decimal.put_decimal.Goals as goal

@@ -1,4 +1,4 @@
-use Rattle.std.proofs.Common.{◌≡◌, ◌^◌, ◌<◌, ◌≤◌, ◌++◌, length, drop, decimal}
+use Rattle.std.proofs.Common.{◌≡◌, ◌^◌, ◌<◌, ◌≤◌, ◌++◌, drop, decimal}
 use Rattle.text.proofs.decimal.put_decimal.Given as goal
 
 -- what is left of the number, and then what is written, are its digits

@@ -7,5 +7,5 @@ use Rattle.explain.proofs.show.NameShow.show.Goals as goal
 
 pub returns : goal.returns
 returns c =
-    added_both _ _ _ _ c.push-bytes.ensures c.show-bytes.ensures
+    added_both _ _ _ _ c.push_bytes.ensures c.show_bytes.ensures
     ∙ ap (λ bs. added 256 (kept c.args.out.now) (codes "name " ++ flat_map byte_text bs)) c.used.ensures

@@ -5,9 +5,9 @@ use Rattle.explain.proofs.tally.Tally.explain.Goals as goal
 pub returns : goal.returns
 returns c =
     added_both _ _ _ _ (added_both _ _ _ _ (added_both _ _ _ _ (added_both _ _ _ _ (added_both _ _ _ _
-    (added_as _ _ c.push-number.ensures (ap decimal c.saturating-add.ensures))
-    c.push-bytes.ensures)
-    c.push-number-2.ensures)
-    c.push-bytes-2.ensures)
-    c.push-number-3.ensures)
-    c.push-bytes-3.ensures
+    (added_as _ _ c.push_number.ensures (ap decimal c.saturating_add.ensures))
+    c.push_bytes.ensures)
+    c.push_number-2.ensures)
+    c.push_bytes-2.ensures)
+    c.push_number-3.ensures)
+    c.push_bytes-3.ensures

@@ -11,6 +11,6 @@ pub returns : goal.returns
 returns g c =
     let kind = lawful_kind g.met.K.Key.turned g.met.K.Key.chained g.met.K.Key.hashed in
     record {
-      step = c.abandon-step.ensures;
-      law = step_law g.K.Key.order g.K.Key.digest kind _ _ (event c.args.session action.Abandon _) (ap (as_reply (λ _. reply.Abandoned)) (sym c.abandon-step.ensures));
+      step = c.abandon_step.ensures;
+      law = step_law g.K.Key.order g.K.Key.digest kind _ _ (event c.args.session action.Abandon _) (ap (as_reply (λ _. reply.Abandoned)) (sym c.abandon_step.ensures));
     }

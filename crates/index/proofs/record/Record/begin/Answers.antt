@@ -11,6 +11,6 @@ pub returns : goal.returns
 returns g c =
     let kind = lawful_kind g.met.K.Key.turned g.met.K.Key.chained g.met.K.Key.hashed in
     record {
-      step = c.begin-step.ensures;
-      law = step_law g.K.Key.order g.K.Key.digest kind _ _ (event c.args.session (action.Begin c.args.task) _) (ap (as_reply (λ _. reply.Begun)) (sym c.begin-step.ensures));
+      step = c.begin_step.ensures;
+      law = step_law g.K.Key.order g.K.Key.digest kind _ _ (event c.args.session (action.Begin c.args.task) _) (ap (as_reply (λ _. reply.Begun)) (sym c.begin_step.ensures));
     }

@@ -7,6 +7,6 @@ pub returns : goal.returns
 returns g c =
     let kind = lawful_kind g.met.K.Key.turned g.met.K.Key.chained g.met.K.Key.hashed in
     record {
-      step = c.call-step.ensures;
-      law = step_law g.K.Key.order g.K.Key.digest kind _ _ (record { call = c.args.call; reply = c.call-step.result }) (sym c.call-step.ensures);
+      step = c.call_step.ensures;
+      law = step_law g.K.Key.order g.K.Key.digest kind _ _ (record { call = c.args.call; reply = c.call_step.result }) (sym c.call_step.ensures);
     }

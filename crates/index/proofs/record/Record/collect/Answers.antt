@@ -11,6 +11,6 @@ pub returns : goal.returns
 returns g c =
     let kind = lawful_kind g.met.K.Key.turned g.met.K.Key.chained g.met.K.Key.hashed in
     record {
-      step = c.collect-step.ensures;
-      law = step_law g.K.Key.order g.K.Key.digest kind _ _ (event c.args.session action.Collect _) (ap (as_reply reply.Collected) (sym c.collect-step.ensures));
+      step = c.collect_step.ensures;
+      law = step_law g.K.Key.order g.K.Key.digest kind _ _ (event c.args.session action.Collect _) (ap (as_reply reply.Collected) (sym c.collect_step.ensures));
     }

@@ -5,7 +5,7 @@ use Rattle.index.specs.Within.{is_within}
 use Rattle.index.proofs.Keeping.{stage_within}
 use Rattle.index.proofs.record.Record.collect_step.Goals as goal
 
-pub invariant-of-self : goal.invariant-of-self
-invariant-of-self g c =
+pub invariant_of-self : goal.invariant_of-self
+invariant_of-self g c =
     let self = c.args.self.now in
-    (subst (λ (x : Core). is_within x ≡ true) (sym c.set-stage.ensures) (stage_within self.core c.args.session Idle self.within refl), tt)
+    record { within = subst (λ (x : Core). is_within x ≡ true) (sym c.set_stage.ensures) (stage_within self.core c.args.session Idle self.within refl) }

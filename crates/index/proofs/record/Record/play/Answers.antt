@@ -11,13 +11,13 @@ loop-i-preserved g c =
     let digest = g.K.Key.digest in
     let start = state c.args.self.now.core c.args.heads.now c.args.items.now c.args.requests.now in
     let before = state l.self.core l.heads l.items l.requests in
-    let done = c.call-step-reply in
+    let done = c.call_step-reply in
     let after = state done.new.self.core done.new.heads done.new.items done.new.requests in
     let cs = c.args.calls.now in
     let within : l.i < length cs = omega (arith, c.min-count.ensures) in
     let room : l.i < length c.args.replies.now = omega (arith, c.min-count.ensures) in
     let call = c.index-calls-i.result in (
-      c.put-element.ensures ∙ played_replies order digest start before cs l.i call done.result after within c.index-calls-i.is l.invariant.1 done.ensures c.args.replies.now l.replies room l.invariant.0,
+      c.put_element.ensures ∙ played_replies order digest start before cs l.i call done.result after within c.index-calls-i.is l.invariant.1 done.ensures c.args.replies.now l.replies room l.invariant.0,
       played_after order digest start before cs l.i call done.result after within c.index-calls-i.is l.invariant.1 done.ensures,
     )
 

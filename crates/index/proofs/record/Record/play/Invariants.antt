@@ -1,4 +1,4 @@
-use Rattle.std.proofs.Common.{◌≡◌, ◌++◌, length, take, drop}
+use Rattle.std.proofs.Common.{◌≡◌, ◌++◌, take, drop}
 use Rattle.rules.specs.States.{state}
 use Rattle.rules.specs.Steps.{played}
 use Rattle.index.proofs.record.Record.play.Given as goal

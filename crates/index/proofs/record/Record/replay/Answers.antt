@@ -15,7 +15,7 @@ returns-in-Ok g c =
     let order = g.K.Key.order in
     let digest = g.K.Key.digest in
     let old = state c.args.self.now.core c.args.heads.now c.args.items.now c.args.requests.now in
-    let mid = state c.make-step.new.self.core c.make-step.new.heads c.make-step.new.items c.args.requests.now in
+    let mid = state c.make_step.new.self.core c.make_step.new.heads c.make_step.new.items c.args.requests.now in
     let after = state c.play.new.self.core c.play.new.heads c.play.new.items c.play.new.requests in
     let n = c.play.result in
     replay_done order digest (make c.args.bits old) c.args.calls.now c.args.replies.now c.play.new.replies n mid after c.in-Ok.ensures

@@ -11,6 +11,6 @@ pub returns : goal.returns
 returns g c =
     let kind = lawful_kind g.met.K.Key.turned g.met.K.Key.chained g.met.K.Key.hashed in
     record {
-      step = c.turn-step.ensures;
-      law = step_law g.K.Key.order g.K.Key.digest kind _ _ (event c.args.session action.Turn _) (ap (as_reply reply.Turned) (sym c.turn-step.ensures));
+      step = c.turn_step.ensures;
+      law = step_law g.K.Key.order g.K.Key.digest kind _ _ (event c.args.session action.Turn _) (ap (as_reply reply.Turned) (sym c.turn_step.ensures));
     }

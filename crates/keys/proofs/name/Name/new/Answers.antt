@@ -9,5 +9,5 @@ filled n m xs bs e h = let d : drop n (replicate {A = ℕ} 12 0) ≡ replicate (
 pub returns : goal.returns
 returns c =
     let n = length c.args.bytes.now in
-    let k = filled n (n - 0) _ _ (omega arith) c.copy-from-slice.ensures.after in
+    let k = filled n (n - 0) _ _ (omega arith) c.copy_from_slice.ensures.after in
     grind (arith, nat_tests)
