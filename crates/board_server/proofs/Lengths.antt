@@ -1,10 +1,9 @@
 -- How long an answer gets.
-use Rattle.std.proofs.Common.{◌≡◌, ℕ, ◌+◌, ◌^◌, ◌<◌, ◌≤◌, List, [], ◌∷◌, ◌++◌, length, codes, decimal, ap, ◌∙◌, subst, arith}
+use Rattle.std.proofs.Common.{◌≡◌, ℕ, ◌^◌, ◌<◌, ◌≤◌, ◌++◌, length, codes, decimal, subst, arith}
 use Rattle.std.proofs.lemmas.Fmt.{length-decimal-le}
-use Rattle.std.proofs.lemmas.List.{length-append, take_all}
-use Rattle.fields.specs.declared.fault.Place.{Place}
+use Rattle.std.proofs.lemmas.List.{length-append}
+use Rattle.lines.specs.declared.fault.Place.{Place}
 use Rattle.lines.specs.declared.berths.Sailing.{Sailing}
-use Rattle.text.specs.Kept.{added, appended}
 use Rattle.board_server.specs.declared.fault.BoardFault.{BoardFault}
 use Rattle.board_server.specs.Answers.{sailing_text, refusal_text, fault_text}
 use Rattle.board_server.specs.Faults.{board_number, board_place}

@@ -1,3 +1,4 @@
+pub mod RunEnds
 pub mod LentTables
 pub mod LineEnds
 pub mod Sounding

@@ -1,10 +1,10 @@
 -- The text of an answer.
-use Rattle.std.specs.Prelude.{ℕ, List, [], ◌∷◌, ◌++◌, Some, None, codes, decimal, Option}
+use Rattle.std.specs.Prelude.{ℕ, List, ◌++◌, Some, None, codes, decimal, Option}
 use Rattle.calls.specs.declared.reply.Progress.{Progress}
 use Rattle.calls.specs.declared.reply.Progress.TheVariants.{Moved, Again, Held, Claimed, Ended}
 use Rattle.calls.specs.declared.reply.Reply.{Reply}
 use Rattle.calls.specs.declared.reply.Reply.TheVariants.{Begun, Turned, Collected, Abandoned}
-use Rattle.fields.specs.declared.fault.Place.{Place}
+use Rattle.lines.specs.declared.fault.Place.{Place}
 use Rattle.lines.specs.declared.berths.Sailing.{Sailing}
 use Rattle.board_server.specs.declared.fault.BoardFault.{BoardFault}
 use Rattle.board_server.specs.Faults.{board_number, board_place}

@@ -1,5 +1,5 @@
 -- The state of a board's index.
-use Rattle.std.specs.Prelude.{ℕ, false, replicate, vec_items}
+use Rattle.std.specs.Prelude.{false, replicate, vec_items}
 use Rattle.rules.specs.Making.{blank_core, made}
 use Rattle.rules.specs.States.{State, state}
 use Rattle.tables.specs.declared.item.Item.{Item}

@@ -1,9 +1,8 @@
 -- The number of each refusal of a board, and the field and byte that it names.
 use Rattle.std.specs.Prelude.{ℕ}
 use Rattle.calls.specs.Faults.{index_number}
-use Rattle.fields.specs.declared.fault.Place.{Place}
-use Rattle.fields.specs.Faults.{place}
-use Rattle.lines.specs.Faults.{line_number, line_place}
+use Rattle.lines.specs.declared.fault.Place.{Place}
+use Rattle.lines.specs.Faults.{place, line_number, line_place}
 use Rattle.board_server.specs.declared.fault.BoardFault.{BoardFault}
 use Rattle.board_server.specs.declared.fault.BoardFault.TheVariants.{Line, Index}
 

@@ -1,3 +1,4 @@
+pub mod RunEnds
 pub mod Faults
 pub mod Soundness
 pub mod BoardIndexes

@@ -1,5 +1,5 @@
 -- What a line is answered, and what it leaves of the two boards.
-use Rattle.std.specs.Prelude.{◌≡◌, ℕ, List, Ok, Err, codes, decimal, Result}
+use Rattle.std.specs.Prelude.{ℕ, List, Ok, Err, codes, decimal, Result}
 use Rattle.calls.specs.declared.fault.IndexFault.{IndexFault}
 use Rattle.calls.specs.declared.reply.Reply.{Reply}
 use Rattle.keys.specs.declared.berth.Berth.{Berth}

@@ -1,7 +1,8 @@
 -- Bytes in, answer lines out.
 use Rattle.std.specs.Prelude.{ℕ, Bool, cond, not, List, [], ◌∷◌, ◌++◌, length, fold, ◌==◌, nat_le}
-use Rattle.fields.specs.Fields.{run_end}
-use Rattle.text.specs.Kept.{kept, kept_line, added}
+use Rattle.board_server.specs.RunEnds.{run_end}
+use Rattle.text.specs.Kept.{kept_page, added}
+use Rattle.text.specs.KeptLines.{kept_line}
 use Rattle.board_server.specs.declared.stream.Stream.{Stream}
 use Rattle.board_server.specs.Served.{Boards, boards_of, new_boards, served}
 
@@ -26,7 +27,7 @@ abbrev pub streamed : Boards → List ℕ → List ℕ → Streamed
 streamed b line text = record { boards = b; line = line; text = text }
 
 abbrev pub stream_of : Stream → Streamed
-stream_of s = streamed (boards_of s.server) (kept_line s.line) (kept s.text)
+stream_of s = streamed (boards_of s.server) (kept_line s.line) (kept_page s.text)
 
 abbrev pub new_stream : Streamed
 new_stream = streamed new_boards [] []

@@ -1,12 +1,12 @@
 ghost use Rattle.std.specs.Prelude.{◌≡◌, ◌≤◌, length};
-ghost use Rattle.text.specs.Kept.{kept, appended};
+ghost use Rattle.text.specs.Kept.{kept_page, appended};
 ghost use Rattle.board_server.specs.Answers.{turn_text, collect_text, reply_text, fault_text};
 
 use crate::fault::BoardFault;
 use crate::show::ShowValue;
 use calls::reply::{Progress, Reply};
 use lines::berths::Sailing;
-use text::text::Text;
+use text::page::Page;
 
 // What an accepted call was replied, by its board.
 #[derive(Clone, Copy)]
@@ -28,8 +28,8 @@ fn turn_words(progress: Progress) -> &'static [u8]
     }
 }
 
-fn put_collected<V: ShowValue>(value: Option<V>, out: &mut Text)
-    ensures text { kept out.new ≡ appended (kept out.old) (collect_text V.ShowValue.shown value) }
+fn put_collected<V: ShowValue>(value: Option<V>, out: &mut Page)
+    ensures text { kept_page out.new ≡ appended (kept_page out.old) (collect_text V.ShowValue.shown value) }
     ensures short { length (collect_text V.ShowValue.shown value) ≤ 27 }
 {
     match value {
@@ -42,8 +42,8 @@ fn put_collected<V: ShowValue>(value: Option<V>, out: &mut Text)
 }
 
 // The text of an accepted call's reply.
-pub fn put_reply<V: ShowValue>(reply: Reply<V>, out: &mut Text)
-    ensures text { kept out.new ≡ appended (kept out.old) (reply_text V.ShowValue.shown reply) }
+pub fn put_reply<V: ShowValue>(reply: Reply<V>, out: &mut Page)
+    ensures text { kept_page out.new ≡ appended (kept_page out.old) (reply_text V.ShowValue.shown reply) }
     ensures short { length (reply_text V.ShowValue.shown reply) ≤ 27 }
 {
     match reply {
@@ -55,8 +55,8 @@ pub fn put_reply<V: ShowValue>(reply: Reply<V>, out: &mut Text)
 }
 
 // The text of a refusal.
-pub fn put_fault(fault: BoardFault, out: &mut Text)
-    ensures text { kept out.new ≡ appended (kept out.old) (fault_text fault) }
+pub fn put_fault(fault: BoardFault, out: &mut Page)
+    ensures text { kept_page out.new ≡ appended (kept_page out.old) (fault_text fault) }
     ensures short { length (fault_text fault) ≤ 48 }
 {
     let place = fault.place();

@@ -31,10 +31,10 @@ pub struct BoardIndex<B: Board> {
 }
 
 // A table of this length, with one element throughout.
-fn filled<T: Copy>(heap: Global, x: T, n: usize) -> Result<Vec<T>, AllocError>
+fn filled<T: Copy>(alloc: Global, x: T, n: usize) -> Result<Vec<T>, AllocError>
     ensures { IfOk result (λ v. v.items ≡ replicate n x) }
 {
-    let mut v = Vec::with_capacity(heap, n)?;
+    let mut v = Vec::with_capacity(alloc, n)?;
     for i in 0..n {
         v.push_reserved(x);
     }
@@ -56,14 +56,14 @@ fn new_item<K: Copy, V: Copy>(key: K, value: V) -> Item<K, V>
 
 impl<B: Board> BoardIndex<B> {
     // An index made new. No ring holds this key and value: they only fill the tables.
-    pub fn new(heap: Global, key: B::Key, value: B::Value) -> Result<BoardIndex<B>, AllocError>
+    pub fn new(alloc: Global, key: B::Key, value: B::Value) -> Result<BoardIndex<B>, AllocError>
         ensures value { IfOk result (λ i. state_of i ≡ new_state key value) }
         ensures law { IfOk result (λ i. Starts B.Key.Key.order B.Key.Key.digest (state_of i)) }
     {
         let mut record = Record::blank();
-        let mut heads = filled(heap, 0u32, HEADS)?;
-        let mut items = filled(heap, new_item(key, value), PLACES)?;
-        let requests = filled(heap, Request { key, value }, SESSIONS)?;
+        let mut heads = filled(alloc, 0u32, HEADS)?;
+        let mut items = filled(alloc, new_item(key, value), PLACES)?;
+        let requests = filled(alloc, Request { key, value }, SESSIONS)?;
         let _ = record.make(&mut heads, &mut items, &requests, HEAD_BITS);
         Ok(BoardIndex {
             record,

@@ -2,7 +2,7 @@ ghost use Rattle.std.specs.Prelude.{◌≡◌, ◌≤◌, map, length, take};
 ghost use Rattle.std.specs.Simd.Lanes.{mask_l};
 ghost use Rattle.board_server.specs.Streams.{is_end, line_end};
 
-use fields::run::run_end;
+use crate::run::run_end;
 use std::simd::prelude::*;
 
 // How many bytes are looked at together.

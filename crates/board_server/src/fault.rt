@@ -3,8 +3,7 @@ ghost use Rattle.board_server.specs.Faults.{board_number, board_place};
 ghost use Rattle.board_server.specs.declared.fault.BoardFault.TheVariants.{Line, Index};
 
 use calls::fault::IndexFault;
-use fields::fault::Place;
-use lines::fault::LineFault;
+use lines::fault::{LineFault, Place};
 
 // Why a board refuses a line: the line itself, or the call that it asks for.
 #[derive(Clone, Copy)]

@@ -4,7 +4,7 @@ ghost use Rattle.keys.specs.Names.{by_name, name_hash};
 ghost use Rattle.lines.specs.Boards.{message_of};
 ghost use Rattle.rules.specs.RunLaw.{GoesOn};
 ghost use Rattle.rules.specs.Steps.{step};
-ghost use Rattle.text.specs.Kept.{kept, appended};
+ghost use Rattle.text.specs.Kept.{kept_page, appended};
 ghost use Rattle.board_server.specs.BoardIndexes.{state_of};
 ghost use Rattle.board_server.specs.Served.{boards_of, new_boards, boards, board_text, served_by, served, answered, Sounds, LawAt};
 
@@ -21,11 +21,11 @@ use lines::berths::{BerthBoard, Sailing};
 use lines::message::{Message, read_line};
 use lines::ships::ShipBoard;
 use std::alloc::{AllocError, Global};
-use text::text::Text;
+use text::page::Page;
 
 // The text of what either board replied.
-fn put_answer(answer: Answer, out: &mut Text)
-    ensures text { kept out.new ≡ appended (kept out.old) (board_text answer) }
+fn put_answer(answer: Answer, out: &mut Page)
+    ensures text { kept_page out.new ≡ appended (kept_page out.old) (board_text answer) }
     ensures short { length (board_text answer) ≤ 27 }
 {
     match answer {
@@ -36,7 +36,7 @@ fn put_answer(answer: Answer, out: &mut Text)
 
 impl Server {
     // Both boards, made new.
-    pub fn new(heap: Global) -> Result<Server, AllocError>
+    pub fn new(alloc: Global) -> Result<Server, AllocError>
         ensures value { IfOk result (λ s. boards_of s ≡ new_boards) }
         ensures sound { IfOk result (λ s. Sounds (boards_of s)) }
     {
@@ -46,8 +46,8 @@ impl Server {
         };
         let sailing = Sailing { ship: 0, minute: 0 };
         let name = Name::new(b"-").unwrap();
-        let berths = BoardIndex::<BerthBoard>::new(heap, berth, sailing)?;
-        let ships = BoardIndex::<ShipBoard>::new(heap, name, 0)?;
+        let berths = BoardIndex::<BerthBoard>::new(alloc, berth, sailing)?;
+        let ships = BoardIndex::<ShipBoard>::new(alloc, name, 0)?;
         Ok(Server { berths, ships })
     }
 
@@ -82,8 +82,8 @@ impl Server {
 
     // Does what a line asks for, and adds the answer to a text: for any bytes, exactly the answer and the
     // boards of the rules, and both boards sound.
-    pub fn answer(&mut self, line: &[u8], out: &mut Text)
-        ensures exact { (kept out.new, boards_of self.new) ≡ answered (kept out.old) line.now (boards_of self.old) }
+    pub fn answer(&mut self, line: &[u8], out: &mut Page)
+        ensures exact { (kept_page out.new, boards_of self.new) ≡ answered (kept_page out.old) line.now (boards_of self.old) }
         ensures short { length (served line.now (boards_of self.old)).0 ≤ 48 }
         ensures sound { Sounds (boards_of self.new) }
         ensures law { LawAt (message_of line.now) (boards_of self.old) (boards_of self.new) }

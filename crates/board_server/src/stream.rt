@@ -6,7 +6,7 @@ use crate::cutting::line_end;
 use crate::server::Server;
 use std::alloc::{AllocError, Global};
 use text::line::Line;
-use text::text::Text;
+use text::page::Page;
 
 // How long the answers may get before they are to be written out: what is left holds one more.
 const FULL: usize = 65472;
@@ -19,19 +19,19 @@ const LINE_BYTES: usize = 81;
 pub struct Stream {
     server: Server,
     line: Line,
-    text: Text,
+    text: Page,
 }
 
 impl Stream {
-    pub fn new(heap: Global) -> Result<Stream, AllocError>
+    pub fn new(alloc: Global) -> Result<Stream, AllocError>
         ensures value { IfOk result (λ s. stream_of s ≡ new_stream) }
         ensures sound { IfOk result (λ s. Sounds (stream_of s).boards) }
     {
-        let server = Server::new(heap)?;
+        let server = Server::new(alloc)?;
         Ok(Stream {
             server,
             line: Line::new(),
-            text: Text::new(),
+            text: Page::new(),
         })
     }
 

@@ -1,4 +1,6 @@
 // Answers each line of standard input by the berth board or the ship board.
+#![tactic(auto)]
+
 ghost use Rattle.std.specs.Prelude.{◌≡◌, OnOk};
 ghost use Rattle.board_server.specs.Streams.{stream_of, fed, cleared};
 

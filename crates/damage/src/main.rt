@@ -1,5 +1,7 @@
 // Drives the index over damaged tables, beside a second implementation of the rules that it has to
 // agree with, call by call. It prints what came up, and how often the two differed.
+#![tactic(auto)]
+
 mod answer;
 mod ask;
 mod dice;

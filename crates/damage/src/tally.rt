@@ -8,8 +8,8 @@ const CORNERS: [&'static str; 6] = [
     "fifth finds that hit",
     "swings done",
     "claims given up",
-    "turns on the session's own set_aside place",
-    "turns with the session's own set_aside place claimed",
+    "turns on the session's own set-aside place",
+    "turns with the session's own set-aside place claimed",
     "turns with the place stood on claimed",
 ];
 

@@ -3,6 +3,8 @@
 //     measure                    how many turns an operation takes, by demand, where the head moves and where not
 //     measure turn SIZE COUNT    COUNT writes of the last key of a ring of SIZE keys
 //     measure begin COUNT        COUNT begins of an insert in a full table
+#![tactic(auto)]
+
 ghost use Rattle.std.specs.Prelude.{◌≡◌, ◌*◌, ◌/◌, ◌<◌};
 
 mod demand;
@@ -101,7 +103,7 @@ fn print_turns(
 
 fn number(word: Option<String>) -> anyhow::Result<u32> {
     match word {
-        None => Err(USAGE.into()),
+        None => Err(anyhow!(USAGE)),
         Some(digits) => Ok(digits.parse::<u32>()?),
     }
 }
@@ -109,7 +111,7 @@ fn number(word: Option<String>) -> anyhow::Result<u32> {
 fn ring_size(word: Option<String>) -> anyhow::Result<u16> {
     match number(word)? {
         size @ 1..=4096 => Ok(size as u16),
-        _ => Err(USAGE.into()),
+        _ => Err(anyhow!(USAGE)),
     }
 }
 
@@ -138,7 +140,7 @@ fn run(rt: &HostRuntime) -> anyhow::Result<()> {
             let refused = begin_refused(&mut ring, count);
             println!(rt; "{refused} refused")?;
         }
-        _ => return Err(USAGE.into()),
+        _ => return Err(anyhow!(USAGE)),
     }
     Ok(())
 }

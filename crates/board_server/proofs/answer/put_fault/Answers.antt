@@ -7,11 +7,11 @@ pub returns : goal.returns
 returns c = record {
   text =
       added_both _ _ _ _ (added_both _ _ _ _ (added_both _ _ _ _ (added_both _ _ _ _ (added_both _ _ _ _
-      c.push-bytes.ensures
-      (added_as _ _ c.push-number.ensures (ap decimal c.number.ensures)))
+      c.push_bytes.ensures
+      (added_as _ _ c.push_number.ensures (ap decimal c.number.ensures)))
       c.push.ensures)
-      (added_as _ _ c.push-number-2.ensures (ap (λ p. decimal p.field) c.place-place.ensures)))
+      (added_as _ _ c.push_number-2.ensures (ap (λ p. decimal p.field) c.place-place.ensures)))
       c.push-2.ensures)
-      (added_as _ _ c.push-number-3.ensures (ap (λ p. decimal p.byte) c.place-place.ensures));
+      (added_as _ _ c.push_number-3.ensures (ap (λ p. decimal p.byte) c.place-place.ensures));
   short = fault_short c.args.fault c.number.result c.place-place.result c.number.ensures c.place-place.ensures (omega arith) (omega arith) (omega arith);
 }

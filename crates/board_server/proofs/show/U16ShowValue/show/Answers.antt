@@ -4,6 +4,6 @@ use Rattle.board_server.proofs.show.U16ShowValue.show.Goals as goal
 
 pub returns : goal.returns
 returns c = record {
-  text = c.push-number.ensures;
+  text = c.push_number.ensures;
   short = omega (arith, length-decimal-le 5 c.args.self (omega arith) (omega arith) (omega arith));
 }

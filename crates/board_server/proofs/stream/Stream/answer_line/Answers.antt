@@ -1,5 +1,5 @@
 use Rattle.std.proofs.Common.{refl}
-use Rattle.text.specs.Kept.{kept}
+use Rattle.text.specs.Kept.{kept_page}
 use Rattle.board_server.specs.Served.{boards_of}
 use Rattle.board_server.specs.Streams.{stream_of}
 use Rattle.board_server.proofs.FedBytes.{line_answered, room_left}
@@ -9,4 +9,4 @@ pub returns : goal.returns
 returns c =
     let self = c.args.self.now in
     let line = c.args.line.now in
-    line_answered (boards_of self.server) _ line line _ (kept self.text) _ _ refl c.answer.ensures.short (room_left (stream_of self) c.requires.room) c.answer.ensures.exact c.push.ensures c.requires.new
+    line_answered (boards_of self.server) _ line line _ (kept_page self.text) _ _ refl c.answer.ensures.short (room_left (stream_of self) c.requires.room) c.answer.ensures.exact c.push.ensures c.requires.new

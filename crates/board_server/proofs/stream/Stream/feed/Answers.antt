@@ -5,5 +5,5 @@ use Rattle.board_server.proofs.stream.Stream.feed.Goals as goal
 
 pub loop-from-preserved : goal.loop-from-preserved
 loop-from-preserved c =
-    let line = c.feed-line-from.ensures in
-    (fed_on (stream_of c.args.self.now) _ _ c.args.bytes.now c.loop-from.from c.feed-line-from.result (omega arith) (omega arith) c.loop-from.invariant.0 line.fed, omega arith)
+    let line = c.feed_line-from.ensures in
+    (fed_on (stream_of c.args.self.now) _ _ c.args.bytes.now c.loop-from.from c.feed_line-from.result (omega arith) (omega arith) c.loop-from.invariant.0 line.fed, omega arith)

@@ -1,6 +1,6 @@
 use Rattle.std.proofs.Common.{rules}
-use Rattle.fields.proofs.RunEnds.{run_end_more, run_end_here, run_end_last}
-use Rattle.fields.proofs.run.run_end.Goals as goal
+use Rattle.board_server.proofs.RunEnds.{run_end_more, run_end_here, run_end_last}
+use Rattle.board_server.proofs.run.run_end.Goals as goal
 
 pub loop-i-preserved : goal.loop-i-preserved
 loop-i-preserved c = search (rules, run_end_more)

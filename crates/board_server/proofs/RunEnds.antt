@@ -2,7 +2,7 @@
 use Rattle.std.proofs.Common.{◌≡◌, ℕ, ◌+◌, ◌<◌, ◌≤◌, true, false, not, eqb, List, length, get_or, arith}
 use Rattle.std.proofs.lemmas.List.Sums.{prefix_len-drop_yes, prefix_len-drop_no, prefix_len-drop_all}
 use Rattle.std.proofs.lemmas.Bool.Decides.{nat_tests}
-use Rattle.fields.specs.Fields.{run_end}
+use Rattle.board_server.specs.RunEnds.{run_end}
 
 module _ (stop : ℕ) (bytes : List ℕ) (i : ℕ) where
   pub run_end_more : i < length bytes → (get_or bytes i 0 ≡ stop → ⊥) → run_end stop bytes (i + 1) ≡ run_end stop bytes i

@@ -1,8 +1,8 @@
 ghost use Rattle.std.specs.Prelude.{◌≡◌, ◌≤◌, length};
-ghost use Rattle.fields.specs.Fields.{run_end};
+ghost use Rattle.board_server.specs.RunEnds.{run_end};
 
 // Where the bytes from a place on come to the byte `stop`, or end.
-pub fn run_end(bytes: &[u8], from: usize, stop: u8) -> usize
+pub(crate) fn run_end(bytes: &[u8], from: usize, stop: u8) -> usize
     ensures value { result ≡ run_end stop bytes.now from }
     ensures bound { (from ≤ result) × (from ≤ length bytes.now → result ≤ length bytes.now) }
 {

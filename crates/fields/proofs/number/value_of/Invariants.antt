@@ -1,6 +1,0 @@
-use Rattle.std.proofs.Common.{◌≡◌, ◌^◌, ◌<◌, take}
-use Rattle.fields.specs.Fields.{value_of}
-use Rattle.fields.proofs.number.value_of.Given as goal
-
-abbrev pub invariant-loop-b : goal.invariant-loop-b
-invariant-loop-b l = (l.value < 10 ^ l.b-index) × (l.value ≡ value_of (take l.b-index l.field))
