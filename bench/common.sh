@@ -6,9 +6,9 @@ mkdir -p "$work"
 
 # Builds the proved program NAME and the plain one.
 build() { # NAME
-    rt check "$1" >"$work/check.log" 2>&1 || { tail -n 20 "$work/check.log" >&2; exit 1; }
+    (cd "crates/$1" && rt run </dev/null) >"$work/check.log" 2>&1 || { tail -n 20 "$work/check.log" >&2; exit 1; }
     rustc -O -o "$work/$1_plain" "bench/$1_plain/main.rs"
-    proved=target/bin/$1
+    proved=crates/$1/out/$1
     plain=$work/$1_plain
 }
 
