@@ -6,7 +6,7 @@ use crate::key::Key;
 use crate::order::{Order, compare_numbers};
 
 // A berth of a harbour.
-#[derive(Clone, Copy)]
+#[derive(Clone, Copy, Debug, PartialEq, Eq)]
 pub struct Berth {
     pub harbour: u16,
     pub berth: u16,

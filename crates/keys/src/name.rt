@@ -16,7 +16,7 @@ pub struct Name {
 }
 
 // Why bytes make no name: there are none, or more than twelve.
-#[derive(Clone, Copy)]
+#[derive(Clone, Copy, Debug, PartialEq, Eq)]
 pub enum NameFault {
     Empty,
     Long,

@@ -7,7 +7,7 @@ use crate::reader::Reader;
 use keys::berth::Berth;
 
 // What lies at a berth: a ship, and the minute of the day at which she sails.
-#[derive(Clone, Copy)]
+#[derive(Clone, Copy, Debug, PartialEq, Eq)]
 pub struct Sailing {
     pub ship: u32,
     pub minute: u16,

@@ -6,14 +6,14 @@ ghost use Rattle.lines.specs.declared.fault.LineFault.TheVariants.{Field};
 use keys::name::NameFault;
 
 // Where a field is: which one, counted from 1, and its first byte, from 0.
-#[derive(Clone, Copy)]
+#[derive(Clone, Copy, Debug, PartialEq, Eq)]
 pub struct Place {
     pub field: usize,
     pub byte: usize,
 }
 
 // Why a field is refused.
-#[derive(Clone, Copy)]
+#[derive(Clone, Copy, Debug, PartialEq, Eq)]
 pub enum Cause {
     // it is missing or empty
     Missing,
@@ -36,14 +36,14 @@ impl From<NameFault> for Cause {
 }
 
 // A refused field, with its place.
-#[derive(Clone, Copy)]
+#[derive(Clone, Copy, Debug, PartialEq, Eq)]
 pub struct FieldFault {
     pub cause: Cause,
     pub place: Place,
 }
 
 // A refused line: by its length, or by one of its fields.
-#[derive(Clone, Copy)]
+#[derive(Clone, Copy, Debug, PartialEq, Eq)]
 pub enum LineFault {
     Length,
     Field(FieldFault),

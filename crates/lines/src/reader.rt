@@ -10,7 +10,7 @@ pub struct Part<'a> {
 }
 
 // What a field is wanted to be.
-#[derive(Clone, Copy)]
+#[derive(Clone, Copy, Debug, PartialEq, Eq)]
 pub enum Kind {
     Word,
     Digits,

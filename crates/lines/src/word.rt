@@ -5,14 +5,14 @@ ghost use Rattle.lines.specs.Words.{letter_of, verb_of, operation_of};
 use calls::operation::Operation;
 
 // The board that a line is for.
-#[derive(Clone, Copy)]
+#[derive(Clone, Copy, Debug, PartialEq, Eq)]
 pub enum Letter {
     B,
     S,
 }
 
 // What a line asks for.
-#[derive(Clone, Copy)]
+#[derive(Clone, Copy, Debug, PartialEq, Eq)]
 pub enum Verb {
     Begin,
     Turn,

@@ -1,5 +1,5 @@
 // Where an item is: free for use, set aside by a session that will link it, or in a ring.
-#[derive(Clone, Copy)]
+#[derive(Clone, Copy, Debug, PartialEq, Eq)]
 pub enum ItemState {
     Out,
     SetAside,
@@ -7,7 +7,7 @@ pub enum ItemState {
 }
 
 // An entry of the item table. `occupied` marks an item that a session has claimed.
-#[derive(Clone, Copy)]
+#[derive(Clone, Copy, Debug, PartialEq, Eq)]
 pub struct Item<K, V> {
     pub state: ItemState,
     pub key: K,

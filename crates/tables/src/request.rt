@@ -4,7 +4,7 @@ ghost use Rattle.tables.specs.Lists.{modify};
 
 // What a session asked for: the key, and the value that insert, write and replace go by. When the
 // session ends present, the value found is written over it.
-#[derive(Clone, Copy)]
+#[derive(Clone, Copy, Debug, PartialEq, Eq)]
 pub struct Request<K, V> {
     pub key: K,
     pub value: V,

@@ -4,7 +4,7 @@ ghost use Rattle.tables.specs.Sessions.{operation_of, aside_of, job_of, cursor_o
 use calls::operation::Operation;
 
 // An operation with the place that it set aside: insert and replace have one.
-#[derive(Clone, Copy)]
+#[derive(Clone, Copy, Debug, PartialEq, Eq)]
 pub enum Job {
     Find,
     Insert(u32),
@@ -16,7 +16,7 @@ pub enum Job {
 
 // What a session under way is about: it seeks its key, from a cursor if it has one, or it has
 // claimed the item after its cursor, to replace it by the one set aside or to remove it.
-#[derive(Clone, Copy)]
+#[derive(Clone, Copy, Debug, PartialEq, Eq)]
 pub enum Work {
     Seeking(Job, Option<u32>),
     Replacing(u32, (u32, u32)),
@@ -24,7 +24,7 @@ pub enum Work {
 }
 
 // Idle, under way, or ended with the answer present (true) or absent.
-#[derive(Clone, Copy)]
+#[derive(Clone, Copy, Debug, PartialEq, Eq)]
 pub enum Stage {
     Idle,
     UnderWay(Work),
@@ -32,7 +32,7 @@ pub enum Stage {
 }
 
 // One of the sixteen sessions. `finds` counts its finds since a head last moved by one, 0 to 4.
-#[derive(Clone, Copy)]
+#[derive(Clone, Copy, Debug, PartialEq, Eq)]
 pub struct Session {
     pub stage: Stage,
     pub finds: u8,
