@@ -1,8 +1,10 @@
 -- Worked values of the definitions.
 use Rattle.std.specs.Prelude.{◌≡◌, ℕ, List, [], ◌∷◌, codes}
-use Rattle.keys.specs.declared.order.Order.TheVariants.{Before}
+use Rattle.std.specs.Cmp.Lexicographic.{slice_cmp}
+use Rattle.std.specs.declared.cmp.Ordering.TheVariants.{Less}
+use Rattle.std.specs.Ordering.{nat_cmp}
 use Rattle.keys.specs.Berths.{berth_hash}
-use Rattle.keys.specs.Bytes.{by_bytes, bytes_hash}
+use Rattle.keys.specs.Bytes.{bytes_hash}
 use Rattle.keys.specs.Hashes.{bucket, tag}
 
 -- P holds of each element
@@ -26,6 +28,6 @@ abbrev pub Examples : Type 0
 Examples =
     Each (λ c. (berth_hash (record { harbour = 0; berth = c.0 })).value ≡ c.1) berth_hashes
     × Each (λ c. (bytes_hash c.0).value ≡ c.1) name_hashes
-    × Each (λ c. by_bytes c.0 c.1 ≡ Before) name_orders
+    × Each (λ c. slice_cmp nat_cmp c.0 c.1 ≡ Less) name_orders
     × (bucket 8 40503 ≡ 158)
     × (tag 8 40503 ≡ 55)

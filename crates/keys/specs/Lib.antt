@@ -5,5 +5,6 @@ pub mod Bytes
 pub mod Names
 pub mod Ranks
 pub mod Examples
-pub mod ByteOrder
+pub mod TotalOrders
+pub mod NameOrder
 pub mod BerthOrder

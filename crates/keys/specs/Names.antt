@@ -1,18 +1,21 @@
 -- Name keys: one to twelve bytes, kept with their count.
 use Rattle.std.specs.Prelude.{ℕ, ◌-◌, min, cond, List, ◌++◌, length, take, replicate, Ok, Err, Result, ◌==◌, nat_lt}
+use Rattle.std.specs.Cmp.Lexicographic.{slice_cmp}
+use Rattle.std.specs.declared.cmp.Ordering.{Ordering}
+use Rattle.std.specs.Ordering.{nat_cmp}
 use Rattle.keys.specs.declared.name.Name.{Name}
 use Rattle.keys.specs.declared.name.NameFault.{NameFault}
 use Rattle.keys.specs.declared.name.NameFault.TheVariants.{Empty, Long}
-use Rattle.keys.specs.declared.order.Order.{Order}
-use Rattle.keys.specs.Bytes.{by_bytes, bytes_hash}
+use Rattle.keys.specs.Bytes.{bytes_hash}
 use Rattle.keys.specs.Hashes.{Hash}
 
 -- the bytes of a name; what lies past its count is no part of it
 abbrev pub used : Name → List ℕ
 used n = take (min n.count 12) n.bytes
 
-abbrev pub by_name : Name → Name → Order
-by_name a b = by_bytes (used a) (used b)
+-- the first byte that differs decides, and a name that begins another comes before it
+abbrev pub by_name : Name → Name → Ordering
+by_name a b = slice_cmp nat_cmp (used a) (used b)
 
 abbrev pub name_hash : Name → Hash
 name_hash a = bytes_hash (used a)

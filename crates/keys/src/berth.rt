@@ -3,10 +3,10 @@ ghost use Rattle.keys.specs.Berths.{by_berth, berth_hash};
 ghost use Rattle.keys.specs.BerthOrder.{by_berth_lawful, by_berth_hashed};
 
 use crate::key::Key;
-use crate::order::{Order, compare_numbers};
+use std::cmp::Ordering;
 
-// A berth of a harbour.
-#[derive(Clone, Copy, Debug, PartialEq, Eq)]
+// A berth of a harbour: harbours are compared first, then berths.
+#[derive(Clone, Copy, Debug, PartialEq, Eq, PartialOrd, Ord)]
 pub struct Berth {
     pub harbour: u16,
     pub berth: u16,
@@ -23,15 +23,11 @@ impl Key for Berth {
 
     ghost hashed = { by_berth_hashed };
 
-    fn compare(self, other: Berth) -> Order {
-        match compare_numbers(self.harbour as u32, other.harbour as u32) {
-            Order::Before => Order::Before,
-            Order::Alike => compare_numbers(self.berth as u32, other.berth as u32),
-            Order::After => Order::After,
-        }
+    fn compare(self, other: Berth) -> Ordering {
+        self.cmp(&other)
     }
 
     fn hash(self) -> u16 {
-        ((40503 * self.berth as u32 + self.harbour as u32) % 65536) as u16
+        self.berth.wrapping_mul(40503).wrapping_add(self.harbour)
     }
 }

@@ -8,5 +8,4 @@ pub mod bytes;
 pub mod examples;
 pub mod key;
 pub mod name;
-pub mod order;
 pub mod rank;

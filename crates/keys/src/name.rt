@@ -1,12 +1,10 @@
 ghost use Rattle.std.specs.Prelude.{◌≡◌};
-ghost use Rattle.std.proofs.Common.{ap};
 ghost use Rattle.keys.specs.Names.{by_name, name_hash, named, name_refusal, used};
-ghost use Rattle.keys.specs.ByteOrder.{by_bytes_lawful, by_bytes_same};
-ghost use Rattle.keys.specs.Bytes.{bytes_hash};
+ghost use Rattle.keys.specs.NameOrder.{by_name_lawful, by_name_hashed};
 
-use crate::bytes::{compare_bytes, hash_bytes};
+use crate::bytes::hash_bytes;
 use crate::key::Key;
-use crate::order::Order;
+use std::cmp::Ordering;
 
 // A name: one to twelve bytes, kept with their count. Only `new` makes one.
 #[derive(Clone, Copy)]
@@ -28,8 +26,7 @@ impl NameFault {
         ensures { result ≡ name_refusal self }
     {
         match self {
-            NameFault::Empty => 5,
-            NameFault::Long => 5,
+            NameFault::Empty | NameFault::Long => 5,
         }
     }
 }
@@ -47,7 +44,7 @@ impl Name {
             return Err(NameFault::Long);
         }
         let mut kept = [0u8; 12];
-        kept[0..count].copy_from_slice(bytes);
+        kept[..count].copy_from_slice(bytes);
         Ok(Name {
             bytes: kept,
             count: count as u8,
@@ -60,7 +57,7 @@ impl Name {
     {
         // never more than twelve; `min` says so where the type does not
         let count = (self.count as usize).min(12);
-        &self.bytes[0..count]
+        &self.bytes[..count]
     }
 }
 
@@ -69,14 +66,14 @@ impl Key for Name {
 
     ghost digest = { name_hash };
 
-    ghost turned = { λ a b. by_bytes_lawful.turned (used a) (used b) };
+    ghost turned = { by_name_lawful.turned };
 
-    ghost chained = { λ a b c. by_bytes_lawful.chained (used a) (used b) (used c) };
+    ghost chained = { by_name_lawful.chained };
 
-    ghost hashed = { λ a b h. ap (λ bs. (bytes_hash bs).value) (by_bytes_same (used a) (used b) h) };
+    ghost hashed = { by_name_hashed };
 
-    fn compare(self, other: Name) -> Order {
-        compare_bytes(self.used(), other.used())
+    fn compare(self, other: Name) -> Ordering {
+        self.used().cmp(other.used())
     }
 
     fn hash(self) -> u16 {

@@ -1,20 +1,20 @@
 -- The cyclic order of keys, over any lawful order. What falls between c and n lies on the arc from c to n.
 use Rattle.std.proofs.Common.{◌≡◌, true, false, arith}
-use Rattle.keys.specs.declared.order.Order.{Order}
-use Rattle.keys.specs.declared.order.Order.TheVariants.{Alike}
+use Rattle.std.specs.declared.cmp.Ordering.{Ordering}
+use Rattle.std.specs.declared.cmp.Ordering.TheVariants.{Equal}
 use Rattle.keys.specs.Orders.{Lawful}
 use Rattle.keys.proofs.Preorders.{total_preorder}
 use Rattle.rings.specs.Between.{below, at_most, between}
 
 -- what the order says of two keys: a ≤ b just if not b < a, and the keys are alike if neither is below the other
-record Two {K : Type 0} (order : K → K → Order) (a b : K) : Type 0 where
+record Two {K : Type 0} (order : K → K → Ordering) (a b : K) : Type 0 where
   pub not_above : below order b a ≡ false → at_most order a b ≡ true
   pub above : below order b a ≡ true → at_most order a b ≡ false
-  pub alike : below order a b ≡ false → below order b a ≡ false → order a b ≡ Alike
+  pub alike : below order a b ≡ false → below order b a ≡ false → order a b ≡ Equal
 
 -- what the order says of three keys, in each of their six turns: if the first is below the second and the third is not,
 -- the first is below the third
-record Three {K : Type 0} (order : K → K → Order) (a b c : K) : Type 0 where
+record Three {K : Type 0} (order : K → K → Ordering) (a b c : K) : Type 0 where
   pub abc : below order a b ≡ true → below order c b ≡ false → below order a c ≡ true
   pub acb : below order a c ≡ true → below order b c ≡ false → below order a b ≡ true
   pub bac : below order b a ≡ true → below order c a ≡ false → below order b c ≡ true
@@ -22,7 +22,7 @@ record Three {K : Type 0} (order : K → K → Order) (a b c : K) : Type 0 where
   pub cab : below order c a ≡ true → below order b a ≡ false → below order c b ≡ true
   pub cba : below order c b ≡ true → below order a b ≡ false → below order c a ≡ true
 
-module _ {K : Type 0} {order : K → K → Order} (laws : Lawful order) where
+module _ {K : Type 0} {order : K → K → Ordering} (laws : Lawful order) where
   -- for any two keys
   two : (a b : K) → Two order a b
   two a b =
@@ -75,7 +75,7 @@ module _ {K : Type 0} {order : K → K → Order} (laws : Lawful order) where
       grind arith
 
   -- where the removal of x joins two arcs, what lies on the new one lay on one of the two, or is alike to x
-  pub arc_split : (c q x n : K) → between order c q n ≡ true → between order c q x ≡ false → between order x q n ≡ false → order q x ≡ Alike
+  pub arc_split : (c q x n : K) → between order c q n ≡ true → between order c q x ≡ false → between order x q n ≡ false → order q x ≡ Equal
   unfolding between
   arc_split c q x n h k l =
       let a = two x c in
@@ -91,7 +91,7 @@ module _ {K : Type 0} {order : K → K → Order} (laws : Lawful order) where
   -- a key lies on one arc of a ring: two arcs that hold x, and of which neither holds the other's start, start at alike keys
   pub arcs_with_one_key :
       (c n p m x : K) → between order c x n ≡ true → between order p x m ≡ true →
-      between order c p n ≡ false → between order p c m ≡ false → order c p ≡ Alike
+      between order c p n ≡ false → between order p c m ≡ false → order c p ≡ Equal
   unfolding between
   arcs_with_one_key c n p m x h k l r =
       let t1 = three c n p in
@@ -120,12 +120,12 @@ module _ {K : Type 0} {order : K → K → Order} (laws : Lawful order) where
   arc_without_end c x = let z = (total_preorder laws).alike_itself x in let a = two x c in grind arith
 
   -- in a ring of one, the arc from a key round to itself leaves out only what is alike to the key
-  pub arc_whole : (c q : K) → between order c q c ≡ false → order q c ≡ Alike
+  pub arc_whole : (c q : K) → between order c q c ≡ false → order q c ≡ Equal
   unfolding between
   arc_whole c q h = let z = (total_preorder laws).alike_itself c in let a = two q c in grind arith
 
   -- a place has one predecessor: two arcs with one end, and of which neither holds the other's start, start at alike keys
-  pub arcs_with_one_end : (c p n : K) → between order c p n ≡ false → between order p c n ≡ false → order c p ≡ Alike
+  pub arcs_with_one_end : (c p n : K) → between order c p n ≡ false → between order p c n ≡ false → order c p ≡ Equal
   unfolding between
   arcs_with_one_end c p n h k =
       let t = three c p n in
@@ -135,7 +135,7 @@ module _ {K : Type 0} {order : K → K → Order} (laws : Lawful order) where
       grind arith
 
   -- on the way from p to h the next comes first: if h is not on the arc from p to n, nor alike to n, n is on the arc from p to h
-  pub arc_first : (p n h : K) → between order p h n ≡ false → (order n h ≡ Alike → ⊥) → between order p n h ≡ true
+  pub arc_first : (p n h : K) → between order p h n ≡ false → (order n h ≡ Equal → ⊥) → between order p n h ≡ true
   unfolding between
   arc_first p n h k ne =
       let t = three p n h in
@@ -145,7 +145,7 @@ module _ {K : Type 0} {order : K → K → Order} (laws : Lawful order) where
       grind arith
 
   -- a replacement changes no arc: alike keys lie on the same arcs
-  pub alike_on_arc : (c q x n : K) → order q x ≡ Alike → between order c q n ≡ between order c x n
+  pub alike_on_arc : (c q x n : K) → order q x ≡ Equal → between order c q n ≡ between order c x n
   unfolding between
   alike_on_arc c q x n e =
       let l = (total_preorder laws).alike_left q x n e in
@@ -153,7 +153,7 @@ module _ {K : Type 0} {order : K → K → Order} (laws : Lawful order) where
       grind arith
 
   -- and start the same arcs
-  pub alike_arc_start : (c d q n : K) → order c d ≡ Alike → between order c q n ≡ between order d q n
+  pub alike_arc_start : (c d q n : K) → order c d ≡ Equal → between order c q n ≡ between order d q n
   unfolding between
   alike_arc_start c d q n e =
       let l = (total_preorder laws).alike_left c d q e in
@@ -161,7 +161,7 @@ module _ {K : Type 0} {order : K → K → Order} (laws : Lawful order) where
       grind arith
 
   -- and end them
-  pub alike_arc_end : (c q m n : K) → order m n ≡ Alike → between order c q m ≡ between order c q n
+  pub alike_arc_end : (c q m n : K) → order m n ≡ Equal → between order c q m ≡ between order c q n
   unfolding between
   alike_arc_end c q m n e =
       let l = (total_preorder laws).alike_left m n c e in
@@ -178,5 +178,5 @@ module _ {K : Type 0} {order : K → K → Order} (laws : Lawful order) where
   not_below a b = (two b a).not_above
 
   -- two highest keys are alike
-  pub neither_below : (a b : K) → below order a b ≡ false → below order b a ≡ false → order a b ≡ Alike
+  pub neither_below : (a b : K) → below order a b ≡ false → below order b a ≡ false → order a b ≡ Equal
   neither_below a b = (two a b).alike

@@ -1,7 +1,7 @@
 -- The laws of rings, together.
 use Rattle.std.proofs.Common.{◌≡◌, ℕ}
-use Rattle.keys.specs.declared.order.Order.{Order}
-use Rattle.keys.specs.declared.order.Order.TheVariants.{Alike}
+use Rattle.std.specs.declared.cmp.Ordering.{Ordering}
+use Rattle.std.specs.declared.cmp.Ordering.TheVariants.{Equal}
 use Rattle.keys.specs.Hashes.{Hash}
 use Rattle.keys.specs.Orders.{Lawful}
 use Rattle.keys.specs.Ranks.{LawfulKind, by_rank, bucket_of}
@@ -15,8 +15,8 @@ use Rattle.rings.proofs.Walks.{list_form}
 
 -- for any lawful order, and any buckets that alike keys share
 pub ring_laws :
-    {K : Type 0} {order : K → K → Order} → Lawful order → (bucket : K → ℕ) →
-    ((a b : K) → order a b ≡ Alike → bucket a ≡ bucket b) → RingLaws order bucket
+    {K : Type 0} {order : K → K → Ordering} → Lawful order → (bucket : K → ℕ) →
+    ((a b : K) → order a b ≡ Equal → bucket a ≡ bucket b) → RingLaws order bucket
 ring_laws {order = order} laws bucket alike_bucket = record {
   link = link_keeps_sound laws bucket alike_bucket;
   link_alone = link_alone_keeps_sound laws bucket alike_bucket;
@@ -32,7 +32,7 @@ ring_laws {order = order} laws bucket alike_bucket = record {
 
 -- for the ranks and the buckets of any lawful kind, in an index of k head bits
 pub rank_ring_laws :
-    {K : Type 0} (order : K → K → Order) (digest : K → Hash) → LawfulKind order digest →
+    {K : Type 0} (order : K → K → Ordering) (digest : K → Hash) → LawfulKind order digest →
     (k : ℕ) → RingLaws (by_rank order digest k) (bucket_of order digest k)
 rank_ring_laws order digest kind k =
     let ranks = rank_laws kind k in

@@ -1,8 +1,8 @@
 -- A link keeps the rings sound.
 use Rattle.std.proofs.Common.{◌≡◌, ℕ, true, false, None, sym, ◌∙◌, arith}
 use Rattle.std.proofs.lemmas.Bool.{cases_eq}
-use Rattle.keys.specs.declared.order.Order.{Order}
-use Rattle.keys.specs.declared.order.Order.TheVariants.{Alike}
+use Rattle.std.specs.declared.cmp.Ordering.{Ordering}
+use Rattle.std.specs.declared.cmp.Ordering.TheVariants.{Equal}
 use Rattle.keys.specs.Orders.{Lawful}
 use Rattle.keys.proofs.Preorders.{total_preorder}
 use Rattle.rings.specs.Between.{between}
@@ -12,8 +12,8 @@ use Rattle.rings.specs.Rings.{View, Sound}
 use Rattle.rings.proofs.Arcs.{arc_front, arc_back, arcs_with_one_key, arc_without_start, arc_without_end}
 use Rattle.rings.proofs.Nexts.{miss_is_right}
 
-module _ {K : Type 0} {order : K → K → Order} (laws : Lawful order) (bucket : K → ℕ)
-    (alike_bucket : (a b : K) → order a b ≡ Alike → bucket a ≡ bucket b) where
+module _ {K : Type 0} {order : K → K → Ordering} (laws : Lawful order) (bucket : K → ℕ)
+    (alike_bucket : (a b : K) → order a b ≡ Equal → bucket a ≡ bucket b) where
   module _ (v w : View K) (c x : ℕ) (s : Sound order bucket v) (t : Linked v w c x)
       (c-in : v.in_ring c ≡ true) (x-out : v.in_ring x ≡ false) (one_bucket : bucket (v.key x) ≡ bucket (v.key c))
       (arc : between order (v.key c) (v.key x) (v.key (v.next c)) ≡ true) where
@@ -59,7 +59,7 @@ module _ {K : Type 0} {order : K → K → Order} (laws : Lawful order) (bucket 
         grind (arith, t.keys, t.rest, t.behind, t.ahead, t.entered)
 
     -- x is alike to nothing in ring, since its key missed
-    unlike' : (p q : ℕ) → w.in_ring p ≡ true → w.in_ring q ≡ true → order (w.key p) (w.key q) ≡ Alike → p ≡ q
+    unlike' : (p q : ℕ) → w.in_ring p ≡ true → w.in_ring q ≡ true → order (w.key p) (w.key q) ≡ Equal → p ≡ q
     unlike' p q ip iq e =
         let d1 = cases_eq p x in
         let d2 = cases_eq q x in

@@ -1,14 +1,14 @@
 -- What sound rings say of a place and its next.
 use Rattle.std.proofs.Common.{◌≡◌, ℕ, true, sym, ◌∙◌, arith}
-use Rattle.keys.specs.declared.order.Order.{Order}
-use Rattle.keys.specs.declared.order.Order.TheVariants.{Alike}
+use Rattle.std.specs.declared.cmp.Ordering.{Ordering}
+use Rattle.std.specs.declared.cmp.Ordering.TheVariants.{Equal}
 use Rattle.keys.specs.Orders.{Lawful}
 use Rattle.rings.specs.Laws.{MissLaw, OneToOneLaw, AloneLaw, UntouchedLaw}
 use Rattle.rings.specs.Rings.{View, Sound}
 use Rattle.rings.proofs.Arcs.{arc_whole, arcs_with_one_end, alike_on_arc}
 
 -- a change out of ring: sound rings are a matter of what is in ring
-pub untouched_keeps_sound : {K : Type 0} (order : K → K → Order) (bucket : K → ℕ) → UntouchedLaw order bucket
+pub untouched_keeps_sound : {K : Type 0} (order : K → K → Ordering) (bucket : K → ℕ) → UntouchedLaw order bucket
 untouched_keeps_sound order bucket v w s t =
     let old = λ (p : ℕ) (i : w.in_ring p ≡ true). sym (t.same p) ∙ i in
     record {
@@ -54,7 +54,7 @@ untouched_keeps_sound order bucket v w s t =
           grind arith;
     }
 
-module _ {K : Type 0} {order : K → K → Order} (laws : Lawful order) (bucket : K → ℕ) where
+module _ {K : Type 0} {order : K → K → Ordering} (laws : Lawful order) (bucket : K → ℕ) where
   -- a place has one predecessor at most: the arcs from two would end at it, and neither would hold the other's start
   pub next_one_to_one : OneToOneLaw order bucket
   next_one_to_one v p q s p-in q-in e =
@@ -85,8 +85,8 @@ module _ {K : Type 0} {order : K → K → Order} (laws : Lawful order) (bucket 
 
 -- a miss is right: a place alike to q would lie on the arc on which q lies
 pub miss_is_right :
-    {K : Type 0} {order : K → K → Order} → Lawful order → (bucket : K → ℕ) →
-    ((a b : K) → order a b ≡ Alike → bucket a ≡ bucket b) → MissLaw order bucket
+    {K : Type 0} {order : K → K → Ordering} → Lawful order → (bucket : K → ℕ) →
+    ((a b : K) → order a b ≡ Equal → bucket a ≡ bucket b) → MissLaw order bucket
 miss_is_right laws bucket alike_bucket v c q s c-in b h p p-in e =
     let d = alike_bucket (v.key p) q e in
     let n = s.nothing_between c p c-in p-in in

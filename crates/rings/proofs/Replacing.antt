@@ -1,8 +1,8 @@
 -- A replacement keeps the rings sound.
 use Rattle.std.proofs.Common.{◌≡◌, ℕ, true, false, cond, eqb, sym, ap, ◌∙◌, inl, inr, arith}
 use Rattle.std.proofs.lemmas.Bool.{cases_eq}
-use Rattle.keys.specs.declared.order.Order.{Order}
-use Rattle.keys.specs.declared.order.Order.TheVariants.{Alike}
+use Rattle.std.specs.declared.cmp.Ordering.{Ordering}
+use Rattle.std.specs.declared.cmp.Ordering.TheVariants.{Equal}
 use Rattle.keys.specs.Orders.{Lawful}
 use Rattle.keys.proofs.Preorders.{total_preorder}
 use Rattle.rings.specs.Between.{between}
@@ -13,10 +13,10 @@ use Rattle.rings.proofs.Arcs.{alike_on_arc, alike_arc_start, alike_arc_end}
 use Rattle.rings.proofs.Nexts.{next_one_to_one}
 use Rattle.rings.proofs.Unlinking.{head_is}
 
-module _ {K : Type 0} {order : K → K → Order} (laws : Lawful order) (bucket : K → ℕ)
-    (alike_bucket : (a b : K) → order a b ≡ Alike → bucket a ≡ bucket b) where
+module _ {K : Type 0} {order : K → K → Ordering} (laws : Lawful order) (bucket : K → ℕ)
+    (alike_bucket : (a b : K) → order a b ≡ Equal → bucket a ≡ bucket b) where
   module _ (v w : View K) (c p x : ℕ) (s : Sound order bucket v) (t : Replaced v w c p x)
-      (c-in : v.in_ring c ≡ true) (c-next : v.next c ≡ p) (x-out : v.in_ring x ≡ false) (alike : order (v.key x) (v.key p) ≡ Alike) where
+      (c-in : v.in_ring c ≡ true) (c-next : v.next c ≡ p) (x-out : v.in_ring x ≡ false) (alike : order (v.key x) (v.key p) ≡ Equal) where
     -- what is replaced is in ring
     in_ring_p : v.in_ring p ≡ true
     in_ring_p = let h = s.next_in_ring c c-in in cc
@@ -53,7 +53,7 @@ module _ {K : Type 0} {order : K → K → Order} (laws : Lawful order) (bucket 
         ]
 
     -- the keys are alike
-    was_key : (q : ℕ) → order (w.key q) (v.key (was q)) ≡ Alike
+    was_key : (q : ℕ) → order (w.key q) (v.key (was q)) ≡ Equal
     was_key q =
         let d = cases_eq q x in
         let k = t.keys q in
@@ -95,7 +95,7 @@ module _ {K : Type 0} {order : K → K → Order} (laws : Lawful order) (bucket 
         grind (arith, t.behind, t.ahead, t.alone, t.entered)
 
     -- alike keys were alike
-    was_alike : (q r : ℕ) → order (w.key q) (w.key r) ≡ Alike → order (v.key (was q)) (v.key (was r)) ≡ Alike
+    was_alike : (q r : ℕ) → order (w.key q) (w.key r) ≡ Equal → order (v.key (was q)) (v.key (was r)) ≡ Equal
     was_alike q r e =
         let o = total_preorder laws in
         o.alike_chained _ _ _ (o.alike_turned _ _ (was_key q)) (o.alike_chained _ _ _ e (was_key r))

@@ -1,7 +1,7 @@
 -- Taking a place out keeps the rings sound.
 use Rattle.std.proofs.Common.{◌≡◌, ℕ, true, false, ◌⊎◌, Some, None, Option, ap, inl, inr, arith}
 use Rattle.std.proofs.lemmas.Bool.{cases_eq}
-use Rattle.keys.specs.declared.order.Order.{Order}
+use Rattle.std.specs.declared.cmp.Ordering.{Ordering}
 use Rattle.keys.specs.Orders.{Lawful}
 use Rattle.rings.specs.Laws.{UnlinkLaw, UnlinkLastLaw}
 use Rattle.rings.specs.Moves.{Unlinked, UnlinkedLast}
@@ -23,7 +23,7 @@ was_in v w p left others q i =
     let o = others q in
     (grind arith, grind arith)
 
-module _ {K : Type 0} {order : K → K → Order} (laws : Lawful order) (bucket : K → ℕ) where
+module _ {K : Type 0} {order : K → K → Ordering} (laws : Lawful order) (bucket : K → ℕ) where
   module _ (v w : View K) (c p : ℕ) (s : Sound order bucket v) (t : Unlinked v w c p)
       (c-in : v.in_ring c ≡ true) (c-next : v.next c ≡ p) (c-not-p : c ≡ p → ⊥) where
     -- what is taken out was in ring

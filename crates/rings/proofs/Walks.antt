@@ -2,8 +2,8 @@
 use Rattle.std.proofs.Common.{◌≡◌, ℕ, zero, suc, ◌<◌, Bool, true, false, ◌&&◌, ◌⊎◌, List, [], ◌∷◌, length, Some, sym, refl, ◌∙◌, inl, inr, arith}
 use Rattle.std.specs.List.{slice_get}
 use Rattle.std.proofs.lemmas.Bool.{both_ways, cases_eq, cases_Bool, eq-eqb}
-use Rattle.keys.specs.declared.order.Order.{Order}
-use Rattle.keys.specs.declared.order.Order.TheVariants.{Before}
+use Rattle.std.specs.declared.cmp.Ordering.{Ordering}
+use Rattle.std.specs.declared.cmp.Ordering.TheVariants.{Less}
 use Rattle.keys.specs.Orders.{Lawful}
 use Rattle.keys.proofs.Preorders.{total_preorder}
 use Rattle.rings.specs.Between.{below, between}
@@ -18,24 +18,24 @@ abbrev Here : {K : Type 0} → (K → ℕ) → View K → ℕ → ℕ → Type 0
 Here bucket v b p = (v.in_ring p ≡ true) × (bucket (v.key p) ≡ b)
 
 -- the place q lies on the arc from the place p to the place h
-abbrev on_arc : {K : Type 0} → (K → K → Order) → View K → ℕ → ℕ → ℕ → Bool
+abbrev on_arc : {K : Type 0} → (K → K → Ordering) → View K → ℕ → ℕ → ℕ → Bool
 on_arc order v h p q = between order (v.key p) (v.key q) (v.key h)
 
 -- the step from p to its next rises
-abbrev rising : {K : Type 0} → (K → K → Order) → View K → ℕ → Bool
+abbrev rising : {K : Type 0} → (K → K → Ordering) → View K → ℕ → Bool
 rising order v p = below order (v.key p) (v.key (v.next p))
 
 -- the way by the nexts from p to h: it passes p and what lies on the arc from p to h, each once, and falls back or ends higher
-record Way {K : Type 0} (order : K → K → Order) (bucket : K → ℕ) (v : View K) (b h p : ℕ) (places : List ℕ) : Type 0 where
+record Way {K : Type 0} (order : K → K → Ordering) (bucket : K → ℕ) (v : View K) (b h p : ℕ) (places : List ℕ) : Type 0 where
   pub starts : slice_get places 0 ≡ Some p
   pub follows : Follows v.next p places h
   pub all : (q : ℕ) → Here bucket v b q → (q ≡ p) ⊎ (on_arc order v h p q ≡ true) → In q places
   pub here : (q : ℕ) → In q places → Here bucket v b q
   pub all_on_arc : (q : ℕ) → In q places → (q ≡ p) ⊎ (on_arc order v h p q ≡ true)
   pub once : Once places
-  pub falls : ((q : ℕ) × In q places × (rising order v q ≡ false)) ⊎ (order (v.key p) (v.key h) ≡ Before)
+  pub falls : ((q : ℕ) × In q places × (rising order v q ≡ false)) ⊎ (order (v.key p) (v.key h) ≡ Less)
 
-module _ {K : Type 0} {order : K → K → Order} (laws : Lawful order) (bucket : K → ℕ)
+module _ {K : Type 0} {order : K → K → Ordering} (laws : Lawful order) (bucket : K → ℕ)
     (v : View K) (n b h : ℕ) (s : Sound order bucket v) (within : (p : ℕ) → v.in_ring p ≡ true → p < n) (h-here : Here bucket v b h) where
   -- a next is in ring in the bucket
   here_next : (p : ℕ) → Here bucket v b p → Here bucket v b (v.next p)
@@ -192,7 +192,7 @@ module _ {K : Type 0} {order : K → K → Order} (laws : Lawful order) (bucket 
         },
       )
 
-module _ {K : Type 0} {order : K → K → Order} (laws : Lawful order) (bucket : K → ℕ) where
+module _ {K : Type 0} {order : K → K → Ordering} (laws : Lawful order) (bucket : K → ℕ) where
   -- the ring of a bucket from its head
   pub list_form : ListLaw order bucket
   list_form v n b h s within e = ring_list laws bucket v n b h s within (s.head_in_ring b h e, s.head_in_bucket b h e)

@@ -1,13 +1,13 @@
 -- The laws of rings, over an order of keys and a function that gives each key its bucket.
 use Rattle.std.specs.Prelude.{◌≡◌, ℕ, ◌<◌, true, false, List, Some, None, ◌≢◌}
-use Rattle.keys.specs.declared.order.Order.{Order}
-use Rattle.keys.specs.declared.order.Order.TheVariants.{Alike}
+use Rattle.std.specs.declared.cmp.Ordering.{Ordering}
+use Rattle.std.specs.declared.cmp.Ordering.TheVariants.{Equal}
 use Rattle.rings.specs.Between.{between}
 use Rattle.rings.specs.Moves.{Linked, LinkedAlone, Unlinked, UnlinkedLast, Replaced, Untouched}
 use Rattle.rings.specs.RingLists.{RingList}
 use Rattle.rings.specs.Rings.{View, Sound}
 
-module _ {K : Type 0} (order : K → K → Order) (bucket : K → ℕ) where
+module _ {K : Type 0} (order : K → K → Ordering) (bucket : K → ℕ) where
   -- an insert keeps rings sound: x, out of ring, is linked behind c of its bucket, and its key falls between c's and that of c's next
   abbrev pub LinkLaw : Type 0
   LinkLaw =
@@ -37,7 +37,7 @@ module _ {K : Type 0} (order : K → K → Order) (bucket : K → ℕ) where
   abbrev pub ReplaceLaw : Type 0
   ReplaceLaw =
       (v w : View K) (c p x : ℕ) → Sound order bucket v → Replaced v w c p x →
-      v.in_ring c ≡ true → v.next c ≡ p → v.in_ring x ≡ false → order (v.key x) (v.key p) ≡ Alike → Sound order bucket w
+      v.in_ring c ≡ true → v.next c ≡ p → v.in_ring x ≡ false → order (v.key x) (v.key p) ≡ Equal → Sound order bucket w
 
   -- a change of places out of ring keeps rings sound, as where an item is set aside with a new key
   abbrev pub UntouchedLaw : Type 0
@@ -48,7 +48,7 @@ module _ {K : Type 0} (order : K → K → Order) (bucket : K → ℕ) where
   MissLaw =
       (v : View K) (c : ℕ) (q : K) → Sound order bucket v →
       v.in_ring c ≡ true → bucket (v.key c) ≡ bucket q → between order (v.key c) q (v.key (v.next c)) ≡ true →
-      (p : ℕ) → v.in_ring p ≡ true → order (v.key p) q ≢ Alike
+      (p : ℕ) → v.in_ring p ≡ true → order (v.key p) q ≢ Equal
 
   -- next is one-to-one in ring: a place has one predecessor at most, so a remove has one place to change
   abbrev pub OneToOneLaw : Type 0

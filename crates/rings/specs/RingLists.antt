@@ -1,7 +1,7 @@
 -- A ring as the list of its places.
 use Rattle.std.specs.Prelude.{◌≡◌, ℕ, zero, suc, ◌≤◌, Bool, true, cond, ◌&&◌, ◌⊎◌, List, [], ◌∷◌, length, Some, ◌==◌, ◌≢◌}
 use Rattle.std.specs.List.{slice_get}
-use Rattle.keys.specs.declared.order.Order.{Order}
+use Rattle.std.specs.declared.cmp.Ordering.{Ordering}
 use Rattle.rings.specs.Between.{below, at_most}
 use Rattle.rings.specs.Rings.{View}
 
@@ -31,7 +31,7 @@ in_bucket bucket v b p = v.in_ring p && bucket (v.key p) == b
 
 -- the list starts at the head h, follows the nexts and closes at h; it holds each place of the bucket b that is in ring once
 -- and nothing else; it rises at every step but one, the step from the top, where it falls back
-pub record RingList {K : Type 0} (order : K → K → Order) (bucket : K → ℕ) (v : View K) (n b h : ℕ) (places : List ℕ) : Type 0 where
+pub record RingList {K : Type 0} (order : K → K → Ordering) (bucket : K → ℕ) (v : View K) (n b h : ℕ) (places : List ℕ) : Type 0 where
   pub starts : slice_get places 0 ≡ Some h
   pub closes : Follows v.next h places h
   pub all : (p : ℕ) → v.in_ring p ≡ true → bucket (v.key p) ≡ b → In p places

@@ -2,9 +2,9 @@
 use Rattle.std.proofs.Common.{◌≡◌, ℕ, ◌<◌, Bool, cond, Some, None, Ok, Err, Option, Result, sym, refl, ap, ◌∙◌, arith}
 use Rattle.std.specs.List.{slice_get}
 use Rattle.std.specs.Option.{ok_or}
+use Rattle.std.specs.declared.cmp.Ordering.{Ordering}
 use Rattle.calls.specs.declared.fault.IndexFault.{IndexFault}
 use Rattle.calls.specs.declared.fault.IndexFault.TheVariants as fault
-use Rattle.keys.specs.declared.order.Order.{Order}
 use Rattle.keys.specs.Hashes.{Hash}
 use Rattle.tables.specs.declared.session.Session.{Session}
 use Rattle.tables.specs.declared.session.Stage.{Stage}
@@ -28,7 +28,7 @@ abbrev pub given : {V : Type 0} → Result (Option V) IndexFault → Option (Opt
 given (Ok v) = Some v
 given (Err e) = None
 
-module _ {K V : Type 0} (order : K → K → Order) (digest : K → Hash) (plain : Plain K V) (st : State K V) (inv : Inv order digest plain st) where
+module _ {K V : Type 0} (order : K → K → Ordering) (digest : K → Hash) (plain : Plain K V) (st : State K V) (inv : Inv order digest plain st) where
   -- the value of a session's request is its answer
   answer_here : (s : ℕ) (e : V) (present : Bool) → s < 16 → answer_of present (slice_get st.requests s) ≡ cond present (Some (gift_in e (slice_get st.requests s))) None
   answer_here s e present h =

@@ -1,8 +1,8 @@
 -- A session begins, is collected, or is abandoned.
 use Rattle.std.proofs.Common.{◌≡◌, ℕ, ◌<◌, Bool, Some, None, Option, sym, refl, ap, ◌∙◌, inl, inr, arith}
+use Rattle.std.specs.declared.cmp.Ordering.{Ordering}
 use Rattle.calls.specs.declared.call.Task.{Task}
 use Rattle.calls.specs.declared.operation.Operation.{Operation}
-use Rattle.keys.specs.declared.order.Order.{Order}
 use Rattle.tables.specs.declared.item.ItemState.TheVariants.{Out, SetAside, InRing}
 use Rattle.tables.specs.declared.session.Job.{Job}
 use Rattle.tables.specs.declared.session.Stage.TheVariants.{Idle, UnderWay, Ended}
@@ -24,7 +24,7 @@ pub record Free {K V : Type 0} (n : ℕ) (w : Whole K V) (x : ℕ) : Type 0 wher
   pub untrodden : (s : ℕ) → cursor_at (w.stage s) ≡ Some x → ⊥
 
 -- session s of v, which is idle, begins: at its aside, if it has one, the item is set aside with its key and value
-module _ {K V : Type 0} {order rank : K → K → Order} {bucket : K → ℕ} {plain : Plain K V} {n : ℕ} {v : Whole K V}
+module _ {K V : Type 0} {order rank : K → K → Ordering} {bucket : K → ℕ} {plain : Plain K V} {n : ℕ} {v : Whole K V}
     (k : Kept order rank bucket plain n v) (s : ℕ) (idle : v.stage s ≡ Idle) (t : Task K V) (j : Job) (op : operation_of j ≡ t.operation)
     (aside : Option ℕ) (mine : aside_of j ≡ aside) (free : (x : ℕ) → aside ≡ Some x → Free n v x)
     (nexts : ℕ → ℕ) (ahead : (p : ℕ) → (aside ≡ Some p → ⊥) → nexts p ≡ v.next p) where
@@ -116,7 +116,7 @@ module _ {K V : Type 0} {order rank : K → K → Order} {bucket : K → ℕ} {p
 
 -- an idle session begins a task's job
 pub begin_kept :
-    {K V : Type 0} {order rank : K → K → Order} {bucket : K → ℕ} {plain : Plain K V} {n : ℕ} {w : Whole K V} (s : ℕ) (t : Task K V) (j : Job) →
+    {K V : Type 0} {order rank : K → K → Ordering} {bucket : K → ℕ} {plain : Plain K V} {n : ℕ} {w : Whole K V} (s : ℕ) (t : Task K V) (j : Job) →
     Kept order rank bucket plain n w → w.stage s ≡ Idle → operation_of j ≡ t.operation → ((x : ℕ) → aside_of j ≡ Some x → Free n w x) →
     Kept order rank bucket (noting s (asked t) plain) n (begin_view s t j w)
 begin_kept {order = order} {rank = rank} {bucket = bucket} {plain = plain} {n = n} {w = w} s t j k idle op free = by (aside_of j) refl free
@@ -126,7 +126,7 @@ begin_kept {order = order} {rank = rank} {bucket = bucket} {plain = plain} {n = 
     by None mine f = begin_with k s idle t j op None mine f w.next (λ p other. refl)
     by (Some x) mine f = begin_with k s idle t j op (Some x) mine f (changed x x w.next) (λ p other. changed_elsewhere x x w.next p (λ same. other (ap Some (sym same))))
 
-module _ {K V : Type 0} {order rank : K → K → Order} {bucket : K → ℕ} {plain : Plain K V} {n : ℕ} {w : Whole K V} (s : ℕ) (k : Kept order rank bucket plain n w) where
+module _ {K V : Type 0} {order rank : K → K → Ordering} {bucket : K → ℕ} {plain : Plain K V} {n : ℕ} {w : Whole K V} (s : ℕ) (k : Kept order rank bucket plain n w) where
   -- a session becomes idle, with what it has set aside and claimed, if anything
   idles :
       (aside claim : Option ℕ) → aside_at (w.stage s) ≡ aside → claim_at (w.stage s) ≡ claim →

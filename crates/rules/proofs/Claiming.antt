@@ -1,8 +1,8 @@
 -- The moves by which a session claims the item ahead of it, to replace or to remove it.
 use Rattle.std.proofs.Common.{◌≡◌, ℕ, Bool, true, false, cond, eqb, Some, None, sym, refl, ap, ◌∙◌, inl, inr, arith}
 use Rattle.std.proofs.lemmas.Bool.{cases_eq, both_ways}
-use Rattle.keys.specs.declared.order.Order.{Order}
-use Rattle.keys.specs.declared.order.Order.TheVariants.{Alike}
+use Rattle.std.specs.declared.cmp.Ordering.{Ordering}
+use Rattle.std.specs.declared.cmp.Ordering.TheVariants.{Equal}
 use Rattle.tables.specs.declared.item.ItemState.TheVariants.{InRing}
 use Rattle.tables.specs.declared.moves.Move.TheVariants.{ClaimToReplace, ClaimToRemove}
 use Rattle.tables.specs.declared.session.Stage.TheVariants.{UnderWay}
@@ -24,9 +24,9 @@ claimed nexts m w = record { state = w.state; key = w.key; value = w.value; next
 
 -- session s of v, whose work is under way and claims nothing, claims m, which is in ring, not marked, and has its key; only its own
 -- aside gets another next
-module _ {K V : Type 0} {order rank : K → K → Order} {bucket : K → ℕ} {plain : Plain K V} {n : ℕ} {v : Whole K V} {s : ℕ} {work : Work}
+module _ {K V : Type 0} {order rank : K → K → Ordering} {bucket : K → ℕ} {plain : Plain K V} {n : ℕ} {v : Whole K V} {s : ℕ} {work : Work}
     (k : Kept order rank bucket plain n v) (e : v.stage s ≡ UnderWay work) (none : claim_of work ≡ None)
-    (m : ℕ) (ring : v.state m ≡ InRing) (alike : order (v.key m) (v.want s) ≡ Alike) (free : v.mark m ≡ false)
+    (m : ℕ) (ring : v.state m ≡ InRing) (alike : order (v.key m) (v.want s) ≡ Equal) (free : v.mark m ≡ false)
     (nexts : ℕ → ℕ) (rest : (p : ℕ) → (aside_at (v.stage s) ≡ Some p → ⊥) → nexts p ≡ v.next p) where
   -- what is in ring is not set aside
   ring_next : (p : ℕ) → v.state p ≡ InRing → nexts p ≡ v.next p
@@ -86,7 +86,7 @@ module _ {K V : Type 0} {order rank : K → K → Order} {bucket : K → ℕ} {p
       (record { same = λ p. refl; keys = λ p i. refl; nexts = λ p i. ring_next p (in_ring_is (v.state p) i); heads = λ b. refl })
       (λ p i. refl) (λ p out used. absurd (used out)) refl
 
-module _ {K V : Type 0} {order rank : K → K → Order} {bucket : K → ℕ} {plain : Plain K V} {n : ℕ} {w : Whole K V} {s : ℕ} {work : Work}
+module _ {K V : Type 0} {order rank : K → K → Ordering} {bucket : K → ℕ} {plain : Plain K V} {n : ℕ} {w : Whole K V} {s : ℕ} {work : Work}
     (kind : Kind order rank bucket) (k : Kept order rank bucket plain n w) (e : w.stage s ≡ UnderWay work) (fifth : Bool) where
   -- what is ahead is in ring
   ahead_in_ring : (c m : ℕ) → Ahead order rank bucket n w s c m → w.state m ≡ InRing

@@ -2,12 +2,12 @@
 use Rattle.std.proofs.Common.{◌≡◌, ℕ, ◌<◌, Bool, true, false, cond, not, ◌&&◌, eqb, ltb, ◌⊎◌, List, length, Some, None, Ok, Err, Option, Result, sym, refl, ap, ◌∙◌, subst, inl, inr, arith}
 use Rattle.std.specs.List.{slice_get}
 use Rattle.std.proofs.lemmas.Bool.{lt-ltb, eqb-true}
+use Rattle.std.specs.declared.cmp.Ordering.{Ordering}
+use Rattle.std.specs.declared.cmp.Ordering.TheVariants.{Equal}
+use Rattle.std.specs.Ordering.{is_eq}
 use Rattle.calls.specs.declared.fault.IndexFault.{IndexFault}
 use Rattle.calls.specs.declared.fault.IndexFault.TheVariants.{OutsideTable}
-use Rattle.keys.specs.declared.order.Order.{Order}
-use Rattle.keys.specs.declared.order.Order.TheVariants.{Alike}
 use Rattle.keys.specs.Hashes.{Hash}
-use Rattle.keys.specs.Orders.{is_alike}
 use Rattle.keys.specs.Ranks.{LawfulKind, by_rank, bucket_of}
 use Rattle.keys.proofs.RankOrder.{rank_laws}
 use Rattle.rings.specs.Between.{between}
@@ -36,13 +36,13 @@ use Rattle.rules.proofs.Reading.{nth_within, nth_bound}
 use Rattle.rules.proofs.Views.{Whole, whole, rings_of, state_in, key_in, value_in, next_in, mark_in, want_in, head_in, cursor_at, claim_at}
 
 -- a turn that decides has grounds for its move, and none is refused
-abbrev pub Decided : {K V : Type 0} → (K → K → Order) → (K → Hash) → K → V → State K V → ℕ → Work → Result (Move V) IndexFault → Type 0
+abbrev pub Decided : {K V : Type 0} → (K → K → Ordering) → (K → Hash) → K → V → State K V → ℕ → Work → Result (Move V) IndexFault → Type 0
 Decided order digest d e st s work (Ok m) =
     Grounds order (by_rank order digest st.core.bits) (bucket_of order digest st.core.bits) st.core.places (whole d e st) s work m
 Decided order digest d e st s work (Err fault) = ⊥
 
 -- a test that says alike
-alike_when_true : (x : Order) → is_alike x ≡ true → x ≡ Alike
+alike_when_true : (x : Ordering) → is_eq x ≡ true → x ≡ Equal
 alike_when_true x h = grind arith
 
 -- an item in ring is in its table
@@ -53,7 +53,7 @@ item_in_ring items p h = go (slice_get items p) refl
     go None at = absurd (grind arith)
     go (Some it) at = (it, at)
 
-module _ {K V : Type 0} (order : K → K → Order) (digest : K → Hash) (laws : LawfulKind order digest) (plain : Plain K V) (st : State K V) (shape : Shape st) (d : K) (e : V)
+module _ {K V : Type 0} (order : K → K → Ordering) (digest : K → Hash) (laws : LawfulKind order digest) (plain : Plain K V) (st : State K V) (shape : Shape st) (d : K) (e : V)
     (kept : Kept order (by_rank order digest st.core.bits) (bucket_of order digest st.core.bits) plain st.core.places (whole d e st))
     (s : ℕ) (r : Request K V) (requested : slice_get st.requests s ≡ Some r) where
   -- the state by place
@@ -65,7 +65,7 @@ module _ {K V : Type 0} (order : K → K → Order) (digest : K → Hash) (laws 
   bucket = bucket_of order digest st.core.bits
 
   -- the order by rank in the index
-  abbrev rank : K → K → Order
+  abbrev rank : K → K → Ordering
   rank = by_rank order digest st.core.bits
 
   -- what a decision of the session says
@@ -113,7 +113,7 @@ module _ {K V : Type 0} (order : K → K → Order) (digest : K → Hash) (laws 
           read false t = let i = ringed h (ap head_in at ∙ ap (λ b. cond b None (Some h)) t) in let l = lt-ltb h st.core.places i in grind arith
 
   -- an item with the rank of the sought key has a key alike to it
-  alike_ranked : (p : ℕ) (it : Item K V) → slice_get st.items p ≡ Some it → has_rank order digest st r.key it.key ≡ true → order (w.key p) (w.want s) ≡ Alike
+  alike_ranked : (p : ℕ) (it : Item K V) → slice_get st.items p ≡ Some it → has_rank order digest st r.key it.key ≡ true → order (w.key p) (w.want s) ≡ Equal
   alike_ranked p it at h =
       let a = (kind_of order digest laws st.core.bits).same_rank it.key r.key (alike_when_true _ h) in
       ap (λ k. order k (w.want s)) (ap (key_in d) at) ∙ ap (order it.key) want_is ∙ a
@@ -161,7 +161,7 @@ module _ {K V : Type 0} (order : K → K → Order) (digest : K → Hash) (laws 
           ap (between rank it.key r.key) (ap (key_in d) at_next) ∙ falls
 
       -- so no item in ring has the key
-      missed : between rank it.key r.key nx.key ≡ true → (p : ℕ) → w.state p ≡ InRing → order (w.key p) (w.want s) ≡ Alike → ⊥
+      missed : between rank it.key r.key nx.key ≡ true → (p : ℕ) → w.state p ≡ InRing → order (w.key p) (w.want s) ≡ Equal → ⊥
       missed falls p p-in alike =
           let kind = kind_of order digest laws st.core.bits in
           miss_is_right kind.ranked bucket (λ a b h. kind.one_bucket a b (kind.same_rank a b h)) (rings_of w) c (w.want s) kept.rings (ap is_in_ring stands) in_bucket
@@ -253,7 +253,7 @@ module _ {K V : Type 0} (order : K → K → Order) (digest : K → Hash) (laws 
       here : w.head (bucket (w.want s)) ≡ None
       here = ap (λ k. w.head (bucket k)) want_is ∙ empty
 
-      missing : (p : ℕ) → w.state p ≡ InRing → order (w.key p) (w.want s) ≡ Alike → ⊥
+      missing : (p : ℕ) → w.state p ≡ InRing → order (w.key p) (w.want s) ≡ Equal → ⊥
       missing p p-in alike = kept.rings.no_head p (ap is_in_ring p-in) (ap w.head ((kind_of order digest laws st.core.bits).one_bucket _ _ alike) ∙ here)
 
       go : (i : Job) → Done (Seeking i None) (Ok (miss_empty i))

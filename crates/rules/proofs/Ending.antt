@@ -1,9 +1,9 @@
 -- The moves by which a session ends with a miss or a hit: no item enters or leaves a ring.
 use Rattle.std.proofs.Common.{◌≡◌, ℕ, Bool, true, false, Some, None, Option, sym, refl, ap, ◌∙◌, subst, inl, inr, arith}
 use Rattle.std.proofs.lemmas.Bool.{cases_eq}
+use Rattle.std.specs.declared.cmp.Ordering.{Ordering}
+use Rattle.std.specs.declared.cmp.Ordering.TheVariants.{Equal}
 use Rattle.calls.specs.Operations.{inserted, leaves, written}
-use Rattle.keys.specs.declared.order.Order.{Order}
-use Rattle.keys.specs.declared.order.Order.TheVariants.{Alike}
 use Rattle.keys.proofs.Preorders.{total_preorder}
 use Rattle.tables.specs.declared.item.ItemState.TheVariants.{InRing}
 use Rattle.tables.specs.declared.moves.Move.TheVariants.{Absent, Present}
@@ -33,10 +33,10 @@ leaves_absent job.Remove value m = refl
 leaves_absent job.Point value m = refl
 
 -- the plain table with a key put
-abbrev pub putting : {K V : Type 0} (order : K → K → Order) → K → Option V → Plain K V → Plain K V
+abbrev pub putting : {K V : Type 0} (order : K → K → Ordering) → K → Option V → Plain K V → Plain K V
 putting order x o plain = record { entries = put order x o plain.entries; notes = plain.notes }
 
-module _ {K V : Type 0} {order rank : K → K → Order} {bucket : K → ℕ} {plain : Plain K V} {n : ℕ} {w : Whole K V}
+module _ {K V : Type 0} {order rank : K → K → Ordering} {bucket : K → ℕ} {plain : Plain K V} {n : ℕ} {w : Whole K V}
     (kind : Kind order rank bucket) (k : Kept order rank bucket plain n w) where
   -- to put back what a key had keeps the invariant
   pub put_back_kept : (x : K) (o : Option V) → found order x plain.entries ≡ o → Kept order rank bucket (putting order x o plain) n w
@@ -45,7 +45,7 @@ module _ {K V : Type 0} {order rank : K → K → Order} {bucket : K → ℕ} {p
       (apart_put kind.ordered x o plain.entries k.apart) (length_put_back order x o plain.entries h) k
 
   -- a key alike to none in ring is absent
-  pub absent_found : (x : K) → ((p : ℕ) → w.state p ≡ InRing → order (w.key p) x ≡ Alike → ⊥) → found order x plain.entries ≡ None
+  pub absent_found : (x : K) → ((p : ℕ) → w.state p ≡ InRing → order (w.key p) x ≡ Equal → ⊥) → found order x plain.entries ≡ None
   absent_found x none =
       elim (found_cases (found order x plain.entries)) [
         | inl h ↦ h
@@ -53,12 +53,12 @@ module _ {K V : Type 0} {order rank : K → K → Order} {bucket : K → ℕ} {p
       ]
 
   -- a key alike to one in ring has its value
-  pub present_found : (x : K) (p : ℕ) → w.state p ≡ InRing → order (w.key p) x ≡ Alike → found order x plain.entries ≡ Some (w.value p)
+  pub present_found : (x : K) (p : ℕ) → w.state p ≡ InRing → order (w.key p) x ≡ Equal → found order x plain.entries ≡ Some (w.value p)
   present_found x p i h = sym (found_alike kind.ordered (w.key p) x plain.entries h) ∙ k.held p i
 
-  module _ (x : K) (p : ℕ) (i : w.state p ≡ InRing) (h : order (w.key p) x ≡ Alike) (y : V) where
+  module _ (x : K) (p : ℕ) (i : w.state p ≡ InRing) (h : order (w.key p) x ≡ Equal) (y : V) where
     -- another item in ring has another key
-    other_key : (q : ℕ) → w.state q ≡ InRing → (q ≡ p → ⊥) → order x (w.key q) ≡ Alike → ⊥
+    other_key : (q : ℕ) → w.state q ≡ InRing → (q ≡ p → ⊥) → order x (w.key q) ≡ Equal → ⊥
     other_key q r differs e =
         differs (sym (k.rings.unlike p q (ap is_in_ring i) (ap is_in_ring r)
         (kind.rank_same (w.key p) (w.key q) ((total_preorder kind.ordered).alike_chained (w.key p) x (w.key q) h e))))
@@ -88,10 +88,10 @@ module _ {K V : Type 0} {order rank : K → K → Order} {bucket : K → ℕ} {p
         })
 
 -- what a session's job does to the plain table
-abbrev pub done_by : {K V : Type 0} (order : K → K → Order) → ℕ → Job → Whole K V → Plain K V → Plain K V
+abbrev pub done_by : {K V : Type 0} (order : K → K → Ordering) → ℕ → Job → Whole K V → Plain K V → Plain K V
 done_by order s j w plain = do_task order s (record { operation = operation_of j; key = w.want s; value = w.gift s }) plain
 
-module _ {K V : Type 0} {order rank : K → K → Order} {bucket : K → ℕ} {plain : Plain K V} {n : ℕ} {w : Whole K V} (s : ℕ) (cursor : Option ℕ)
+module _ {K V : Type 0} {order rank : K → K → Ordering} {bucket : K → ℕ} {plain : Plain K V} {n : ℕ} {w : Whole K V} (s : ℕ) (cursor : Option ℕ)
     (kind : Kind order rank bucket) (k : Kept order rank bucket plain n w) where
   -- a session that seeks ends with the answer that its key has, after its job has put what it leaves
   ends_found :
@@ -104,7 +104,7 @@ module _ {K V : Type 0} {order rank : K → K → Order} {bucket : K → ℕ} {p
 
   -- it ends with a miss
   miss_ends :
-      (j : Job) → w.stage s ≡ UnderWay (Seeking j cursor) → MayMiss j → ((p : ℕ) → w.state p ≡ InRing → order (w.key p) (w.want s) ≡ Alike → ⊥) →
+      (j : Job) → w.stage s ≡ UnderWay (Seeking j cursor) → MayMiss j → ((p : ℕ) → w.state p ≡ InRing → order (w.key p) (w.want s) ≡ Equal → ⊥) →
       Kept order rank bucket (done_by order s j w plain) n (ended_view s j None (out_aside (aside_of j) w))
   miss_ends j e may none =
       let x = w.want s in
@@ -113,7 +113,7 @@ module _ {K V : Type 0} {order rank : K → K → Order} {bucket : K → ℕ} {p
       let back = gone ∙ sym (ap (leaves (operation_of j) (w.gift s)) gone ∙ leaves_absent j (w.gift s) may) in
       ends_found j o None w (put_back_kept kind k x o back) e gone
 
-  module _ (p : ℕ) (y : V) (i : w.state p ≡ InRing) (h : order (w.key p) (w.want s) ≡ Alike) (v : y ≡ w.value p) where
+  module _ (p : ℕ) (y : V) (i : w.state p ≡ InRing) (h : order (w.key p) (w.want s) ≡ Equal) (v : y ≡ w.value p) where
     -- its key has the value of the item that it found
     has : found order (w.want s) plain.entries ≡ Some y
     has = present_found kind k (w.want s) p i h ∙ ap Some (sym v)
@@ -146,7 +146,7 @@ module _ {K V : Type 0} {order rank : K → K → Order} {bucket : K → ℕ} {p
         let o = found order (w.want s) plain.entries in
         ends_found job.Point o (Some y) (set_head (bucket (w.want s)) (Some p) w) (pointed o (put_back_kept kind k (w.want s) o refl)) e has
 
-module _ {K V : Type 0} {order rank : K → K → Order} {bucket : K → ℕ} {plain : Plain K V} {n : ℕ} {w : Whole K V} {s : ℕ}
+module _ {K V : Type 0} {order rank : K → K → Ordering} {bucket : K → ℕ} {plain : Plain K V} {n : ℕ} {w : Whole K V} {s : ℕ}
     (kind : Kind order rank bucket) (k : Kept order rank bucket plain n w) where
   -- a miss keeps the invariant
   pub absent_kept :

@@ -2,9 +2,9 @@
 -- itself, of the asides and claims of all, and of the plain table; and each part from what a call changes.
 use Rattle.std.proofs.Common.{◌≡◌, ℕ, ◌<◌, Bool, true, cond, eqb, ◌⊎◌, length, Some, None, Option, sym, ap, ◌∙◌, subst, inl, inr, arith}
 use Rattle.std.proofs.lemmas.Bool.{cases_eq}
+use Rattle.std.specs.declared.cmp.Ordering.{Ordering}
+use Rattle.std.specs.declared.cmp.Ordering.TheVariants.{Equal}
 use Rattle.calls.specs.declared.operation.Operation.{Operation}
-use Rattle.keys.specs.declared.order.Order.{Order}
-use Rattle.keys.specs.declared.order.Order.TheVariants.{Alike}
 use Rattle.rings.specs.RingLists.{count_below}
 use Rattle.rings.specs.Rings.{Sound}
 use Rattle.tables.specs.declared.item.ItemState.TheVariants.{Out, SetAside, InRing}
@@ -21,7 +21,7 @@ pub absent_present : {A : Type 0} {o : Option A} {a : A} → o ≡ None → o �
 absent_present e h = let z : ◌≡◌ {A = ℕ} 0 1 = cc in omega arith
 
 -- what holds of one session by itself
-pub record Own {K V : Type 0} (order : K → K → Order) (bucket : K → ℕ) (plain : Plain K V) (n : ℕ) (w : Whole K V) (s : ℕ) : Type 0 where
+pub record Own {K V : Type 0} (order : K → K → Ordering) (bucket : K → ℕ) (plain : Plain K V) (n : ℕ) (w : Whole K V) (s : ℕ) : Type 0 where
   pub idle : w.stage s ≡ Idle → plain.notes s ≡ nothing
   pub under_way : (work : Work) → w.stage s ≡ UnderWay work → plain.notes s ≡ asked (record { operation = operation_of (job_of work); key = w.want s; value = w.gift s })
   pub ended : (o : Operation) (present : Bool) → w.stage s ≡ Ended o present → plain.notes s ≡ answer (cond present (Some (w.gift s)) None)
@@ -33,11 +33,11 @@ pub record Own {K V : Type 0} (order : K → K → Order) (bucket : K → ℕ) (
   pub aside_value : (x : ℕ) → aside_at (w.stage s) ≡ Some x → w.value x ≡ w.gift s
   pub claim_state : (p : ℕ) → claim_at (w.stage s) ≡ Some p → w.state p ≡ InRing
   pub claim_mark : (p : ℕ) → claim_at (w.stage s) ≡ Some p → w.mark p ≡ true
-  pub claim_key : (p : ℕ) → claim_at (w.stage s) ≡ Some p → order (w.key p) (w.want s) ≡ Alike
+  pub claim_key : (p : ℕ) → claim_at (w.stage s) ≡ Some p → order (w.key p) (w.want s) ≡ Equal
   pub claim_next : (p x : ℕ) → claim_at (w.stage s) ≡ Some p → aside_at (w.stage s) ≡ Some x → w.next x ≡ cond (eqb (w.next p) p) x (w.next p)
 
 -- the same of a session under way, by its work
-pub record OwnWork {K V : Type 0} (order : K → K → Order) (bucket : K → ℕ) (n : ℕ) (w : Whole K V) (s : ℕ) (work : Work) : Type 0 where
+pub record OwnWork {K V : Type 0} (order : K → K → Ordering) (bucket : K → ℕ) (n : ℕ) (w : Whole K V) (s : ℕ) (work : Work) : Type 0 where
   pub cursor_within : (c : ℕ) → cursor_of work ≡ Some c → c < n
   pub cursor_state : (c : ℕ) → cursor_of work ≡ Some c → w.state c ≡ SetAside → ⊥
   pub cursor_bucket : (c : ℕ) → cursor_of work ≡ Some c → w.state c ≡ InRing → bucket (w.key c) ≡ bucket (w.want s)
@@ -46,13 +46,13 @@ pub record OwnWork {K V : Type 0} (order : K → K → Order) (bucket : K → �
   pub aside_value : (x : ℕ) → aside_of (job_of work) ≡ Some x → w.value x ≡ w.gift s
   pub claim_state : (p : ℕ) → claim_of work ≡ Some p → w.state p ≡ InRing
   pub claim_mark : (p : ℕ) → claim_of work ≡ Some p → w.mark p ≡ true
-  pub claim_key : (p : ℕ) → claim_of work ≡ Some p → order (w.key p) (w.want s) ≡ Alike
+  pub claim_key : (p : ℕ) → claim_of work ≡ Some p → order (w.key p) (w.want s) ≡ Equal
   pub claim_next : (p x : ℕ) → claim_of work ≡ Some p → aside_of (job_of work) ≡ Some x → w.next x ≡ cond (eqb (w.next p) p) x (w.next p)
 
 -- the plain table has what is in ring
-pub record Agrees {K V : Type 0} (order : K → K → Order) (plain : Plain K V) (n : ℕ) (w : Whole K V) : Type 0 where
+pub record Agrees {K V : Type 0} (order : K → K → Ordering) (plain : Plain K V) (n : ℕ) (w : Whole K V) : Type 0 where
   pub held : (p : ℕ) → w.state p ≡ InRing → found order (w.key p) plain.entries ≡ Some (w.value p)
-  pub known : (x : K) (v : V) → found order x plain.entries ≡ Some v → (p : ℕ) × (w.state p ≡ InRing) × (order (w.key p) x ≡ Alike)
+  pub known : (x : K) (v : V) → found order x plain.entries ≡ Some v → (p : ℕ) × (w.state p ≡ InRing) × (order (w.key p) x ≡ Equal)
   pub apart : Apart order plain.entries
   pub counted : length plain.entries ≡ count_below (λ p. is_in_ring (w.state p)) n
 
@@ -99,7 +99,7 @@ pub record Holdings {K V : Type 0} (v w : Whole K V) (s : ℕ) : Type 0 where
   pub claim_new : (t p : ℕ) → (t ≡ s → ⊥) → claim_at (w.stage s) ≡ Some p → claim_at (v.stage t) ≡ Some p → ⊥
   pub claim_left : (p : ℕ) → w.mark p ≡ true → (claim_at (w.stage s) ≡ Some p) ⊎ ((v.mark p ≡ true) × (claim_at (v.stage s) ≡ Some p → ⊥))
 
-module _ {K V : Type 0} {order rank : K → K → Order} {bucket : K → ℕ} {plain : Plain K V} {n : ℕ} {w : Whole K V} where
+module _ {K V : Type 0} {order rank : K → K → Ordering} {bucket : K → ℕ} {plain : Plain K V} {n : ℕ} {w : Whole K V} where
   -- the invariant has it of each session
   pub kept_own : Kept order rank bucket plain n w → (s : ℕ) → Own order bucket plain n w s
   kept_own k s = record {
@@ -152,7 +152,7 @@ module _ {K V : Type 0} {order rank : K → K → Order} {bucket : K → ℕ} {p
     counted = agrees.counted;
   }
 
-module _ {K V : Type 0} {order : K → K → Order} {bucket : K → ℕ} {plain : Plain K V} {n : ℕ} {w : Whole K V} {s : ℕ} where
+module _ {K V : Type 0} {order : K → K → Ordering} {bucket : K → ℕ} {plain : Plain K V} {n : ℕ} {w : Whole K V} {s : ℕ} where
   -- a session under way
   pub own_working :
       (work : Work) → w.stage s ≡ UnderWay work →
@@ -233,7 +233,7 @@ module _ {K V : Type 0} {order : K → K → Order} {bucket : K → ℕ} {plain 
         claim_next = λ p x i j. o.claim_next p x (claim ∙ i) (aside ∙ j);
       }
 
-module _ {K V : Type 0} {order : K → K → Order} {bucket : K → ℕ} {plain plain' : Plain K V} {n : ℕ} {v w : Whole K V} where
+module _ {K V : Type 0} {order : K → K → Ordering} {bucket : K → ℕ} {plain plain' : Plain K V} {n : ℕ} {v w : Whole K V} where
   -- what holds of another session still does
   pub frame_own :
       (s t : ℕ) → Frame v w s → (t ≡ s → ⊥) → plain'.notes t ≡ plain.notes t → Own order bucket plain n v t → Own order bucket plain' n w t
@@ -293,7 +293,7 @@ module _ (before after : ℕ → Option ℕ) (s : ℕ) (others : (t : ℕ) → (
 
 -- a call on session s that frames the others keeps the invariant, if it holds of s, of the rings and of the plain table
 pub frame_kept :
-    {K V : Type 0} {order rank : K → K → Order} {bucket : K → ℕ} {plain plain' : Plain K V} {n : ℕ} {v w : Whole K V} (s : ℕ) →
+    {K V : Type 0} {order rank : K → K → Ordering} {bucket : K → ℕ} {plain plain' : Plain K V} {n : ℕ} {v w : Whole K V} (s : ℕ) →
     Kept order rank bucket plain n v → Frame v w s → ((t : ℕ) → (t ≡ s → ⊥) → plain'.notes t ≡ plain.notes t) →
     Own order bucket plain' n w s → Holdings v w s → Sound rank bucket (rings_of w) → ((p : ℕ) → (w.state p ≡ Out → ⊥) → p < n) →
     Agrees order plain' n w → Kept order rank bucket plain' n w

@@ -5,10 +5,10 @@ use Rattle.std.specs.List.{slice_get}
 use Rattle.std.specs.Option.{ok_or}
 use Rattle.std.proofs.lemmas.Bool.{eq-eqb, or_left, or_right}
 use Rattle.std.proofs.lemmas.Bool.Decides.{nat_tests}
+use Rattle.std.specs.declared.cmp.Ordering.{Ordering}
 use Rattle.calls.specs.declared.call.Task.{Task}
 use Rattle.calls.specs.declared.fault.IndexFault.TheVariants as fault
 use Rattle.calls.specs.declared.operation.Operation.{Operation}
-use Rattle.keys.specs.declared.order.Order.{Order}
 use Rattle.keys.specs.Hashes.{Hash}
 use Rattle.rings.specs.RingLists.{count_below}
 use Rattle.rings.proofs.Counting.{count_none}
@@ -108,7 +108,7 @@ module _ {K V : Type 0} (st : State K V) (s : ℕ) (task : Task K V) where
   refused_seat None h = let z : ◌≡◌ {A = ℕ} 0 1 = cc in absurd (omega arith)
   refused_seat (Some x) h = let r = refused_stage x.stage h in (x, refl, r.0, r.1)
 
-module _ {K V : Type 0} (order : K → K → Order) (digest : K → Hash) (plain : Plain K V) (st : State K V) (inv : Inv order digest plain st) where
+module _ {K V : Type 0} (order : K → K → Ordering) (digest : K → Hash) (plain : Plain K V) (st : State K V) (inv : Inv order digest plain st) where
   -- a place in ring, set aside or stood on
   abbrev is_taken : ℕ → Bool
   is_taken p = is_in_ring (state_in (slice_get st.items p)) || (is_part aside_at st.core.sessions p || is_part cursor_at st.core.sessions p)

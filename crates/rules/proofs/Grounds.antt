@@ -1,8 +1,8 @@
 -- What is true of a state in which a turn has decided on a move: the grounds on which the move may be
 -- made. s is the session, and its work is under way.
 use Rattle.std.proofs.Common.{◌≡◌, ℕ, true, false, cond, eqb, ◌⊎◌, Some, None}
-use Rattle.keys.specs.declared.order.Order.{Order}
-use Rattle.keys.specs.declared.order.Order.TheVariants.{Alike}
+use Rattle.std.specs.declared.cmp.Ordering.{Ordering}
+use Rattle.std.specs.declared.cmp.Ordering.TheVariants.{Equal}
 use Rattle.rings.specs.Between.{between}
 use Rattle.tables.specs.declared.item.ItemState.TheVariants.{InRing}
 use Rattle.tables.specs.declared.moves.Move.{Move}
@@ -38,12 +38,12 @@ MayHit (job.Replace x) = ⊥
 MayHit job.Remove = ⊥
 MayHit job.Point = Unit {0}
 
-module _ {K V : Type 0} (order rank : K → K → Order) (bucket : K → ℕ) (n : ℕ) (w : Whole K V) (s : ℕ) where
+module _ {K V : Type 0} (order rank : K → K → Ordering) (bucket : K → ℕ) (n : ℕ) (w : Whole K V) (s : ℕ) where
   -- m comes after the item c, which is in ring, and has the sought key
   pub record Ahead (c m : ℕ) : Type 0 where
     pub stands : w.state c ≡ InRing
     pub leads : w.next c ≡ m
-    pub alike : order (w.key m) (w.want s) ≡ Alike
+    pub alike : order (w.key m) (w.want s) ≡ Equal
     pub free : w.mark m ≡ false
 
   -- the three tests of a swing
@@ -59,9 +59,9 @@ module _ {K V : Type 0} (order rank : K → K → Order) (bucket : K → ℕ) (n
   Grounds work Wait = Unit {0}
   Grounds work (ClaimToReplace x pair ahead) = (work ≡ Seeking (job.Replace x) (Some pair.0)) × Ahead pair.0 pair.1 × (ahead ≡ cond (eqb (w.next pair.1) pair.1) x (w.next pair.1))
   Grounds work (ClaimToRemove pair) = (work ≡ Seeking job.Remove (Some pair.0)) × Ahead pair.0 pair.1
-  Grounds work Absent = Seeks work × MayMiss (job_of work) × ((p : ℕ) → w.state p ≡ InRing → order (w.key p) (w.want s) ≡ Alike → ⊥)
+  Grounds work Absent = Seeks work × MayMiss (job_of work) × ((p : ℕ) → w.state p ≡ InRing → order (w.key p) (w.want s) ≡ Equal → ⊥)
   Grounds work (LinkAlone x) = (work ≡ Seeking (job.Insert x) None) × (w.head (bucket (w.want s)) ≡ None)
   Grounds work (Link x pair) = (work ≡ Seeking (job.Insert x) (Some pair.0)) × (w.state pair.0 ≡ InRing) × (w.next pair.0 ≡ pair.1) × (w.mark pair.0 ≡ false) × (between rank (w.key pair.0) (w.want s) (w.key pair.1) ≡ true)
-  Grounds work (Present p v) = Seeks work × MayHit (job_of work) × (w.state p ≡ InRing) × (order (w.key p) (w.want s) ≡ Alike) × (v ≡ w.value p)
+  Grounds work (Present p v) = Seeks work × MayHit (job_of work) × (w.state p ≡ InRing) × (order (w.key p) (w.want s) ≡ Equal) × (v ≡ w.value p)
   Grounds work (SwingIn x pair h v) = (work ≡ Replacing x pair) × MaySwing pair.0 pair.1 × (h ≡ followed pair.1 (Some x) (w.head (bucket (w.want s)))) × (v ≡ w.value pair.1)
   Grounds work (SwingOut pair ahead h v) = (work ≡ Removing pair) × MaySwing pair.0 pair.1 × (ahead ≡ w.next pair.1) × (h ≡ followed pair.1 (heir pair.1 ahead) (w.head (bucket (w.want s)))) × (v ≡ w.value pair.1)

@@ -1,14 +1,12 @@
 -- There are runs: calls that are played are a run, and the worked day is one, with its plain table and its ring.
 use Rattle.std.proofs.Common.{◌≡◌, ℕ, List, [], ◌∷◌, ◌++◌, map, Some, sym, refl, ap, ◌∙◌, subst, inl, inr, arith, lit<}
 use Rattle.std.specs.List.{slice_get}
-use Rattle.std.proofs.lemmas.Bool.Decides.{nat_tests}
+use Rattle.std.specs.declared.cmp.Ordering.{Ordering}
 use Rattle.keys.specs.declared.berth.Berth.{Berth}
-use Rattle.keys.specs.declared.order.Order.{Order}
+use Rattle.keys.specs.BerthOrder.{by_berth_lawful, by_berth_hashed}
 use Rattle.keys.specs.Berths.{by_berth, berth_hash}
 use Rattle.keys.specs.Hashes.{Hash}
-use Rattle.keys.specs.Orders.{Lawful, by_number}
 use Rattle.keys.specs.Ranks.{LawfulKind}
-use Rattle.keys.proofs.RankOrder.{number_first}
 use Rattle.rings.specs.Between.{between}
 use Rattle.rings.specs.RingLists.{In}
 use Rattle.tables.specs.declared.item.Item.{Item}
@@ -33,12 +31,7 @@ played_run (a ∷ rest) es st run answered =
 
 -- berths are a lawful kind
 pub berths_lawful : LawfulKind by_berth berth_hash
-berths_lawful = record {
-  ordered =
-      let by_berth_number : Lawful (λ (a b : Berth). by_number a.berth b.berth) = record { turned = λ a b. grind (arith, nat_tests); chained = λ a b c h k. grind (arith, nat_tests) } in
-      number_first by_berth_number (λ a. a.harbour);
-  alike_hash = λ a b h. let e : a.harbour ≡ b.harbour = grind (arith, nat_tests) in let f : a.berth ≡ b.berth = grind (arith, nat_tests) in cc;
-}
+berths_lawful = record { ordered = by_berth_lawful; alike_hash = by_berth_hashed }
 
 -- the worked day is a run
 pub worked_run : Run by_berth berth_hash (events_of worked_day []) (after worked_day)
@@ -67,7 +60,7 @@ leads_one_way items from to (p ∷ ps) (q ∷ qs) l m there short other =
     (λ r i. there r (inr i)) (λ i. short (inr i)) (λ i. other (inr i)) in
     cc
 
-module _ {K V : Type 0} (order : K → K → Order) (digest : K → Hash) where
+module _ {K V : Type 0} (order : K → K → Ordering) (digest : K → Hash) where
   -- so the ring of a bucket is the way from its head, if that passes its head but once
   pub ring_is : (st : State K V) (plain : Plain K V) (b h : ℕ) (qs : List ℕ) → slice_get st.heads b ≡ Some h → (h ≡ none → ⊥) →
       ((it : Item K V) → slice_get st.items h ≡ Some it → Leads st.items it.next qs h) → (In h qs → ⊥) →

@@ -1,7 +1,7 @@
 -- What holds in every state of a run.
 use Rattle.std.proofs.Common.{◌≡◌, ℕ, ◌^◌, ◌<◌, ◌≤◌, Bool, true, cond, eqb, length, Some, None}
-use Rattle.keys.specs.declared.order.Order.{Order}
-use Rattle.keys.specs.declared.order.Order.TheVariants.{Alike}
+use Rattle.std.specs.declared.cmp.Ordering.{Ordering}
+use Rattle.std.specs.declared.cmp.Ordering.TheVariants.{Equal}
 use Rattle.keys.specs.Hashes.{Hash}
 use Rattle.keys.specs.Ranks.{by_rank, bucket_of}
 use Rattle.rings.specs.RingLists.{count_below}
@@ -29,7 +29,7 @@ pub record Shape {K V : Type 0} (st : State K V) : Type 0 where
   pub sessions_long : length st.core.sessions ≡ 16
 
 -- keys are compared by `order`, and in rings by `rank`, which leaves the same keys alike
-pub record Kept {K V : Type 0} (order rank : K → K → Order) (bucket : K → ℕ) (plain : Plain K V) (n : ℕ) (w : Whole K V) : Type 0 where
+pub record Kept {K V : Type 0} (order rank : K → K → Ordering) (bucket : K → ℕ) (plain : Plain K V) (n : ℕ) (w : Whole K V) : Type 0 where
   -- the rings are sound, and what is in use lies in the table
   pub rings : Sound rank bucket (rings_of w)
   pub within : (p : ℕ) → (w.state p ≡ Out → ⊥) → p < n
@@ -50,18 +50,18 @@ pub record Kept {K V : Type 0} (order rank : K → K → Order) (bucket : K → 
   -- a claimed item is in ring, marked, has the session's key, and is no other session's
   pub claim_state : (s p : ℕ) → claim_at (w.stage s) ≡ Some p → w.state p ≡ InRing
   pub claim_mark : (s p : ℕ) → claim_at (w.stage s) ≡ Some p → w.mark p ≡ true
-  pub claim_key : (s p : ℕ) → claim_at (w.stage s) ≡ Some p → order (w.key p) (w.want s) ≡ Alike
+  pub claim_key : (s p : ℕ) → claim_at (w.stage s) ≡ Some p → order (w.key p) (w.want s) ≡ Equal
   pub claim_apart : (s t p : ℕ) → claim_at (w.stage s) ≡ Some p → claim_at (w.stage t) ≡ Some p → s ≡ t
   pub claim_owned : (p : ℕ) → w.mark p ≡ true → (s : ℕ) × (claim_at (w.stage s) ≡ Some p)
   -- the item that will take its place leads where it leads, or to itself where it is alone
   pub claim_next : (s p x : ℕ) → claim_at (w.stage s) ≡ Some p → aside_at (w.stage s) ≡ Some x → w.next x ≡ cond (eqb (w.next p) p) x (w.next p)
   -- the plain table has what is in ring
   pub held : (p : ℕ) → w.state p ≡ InRing → found order (w.key p) plain.entries ≡ Some (w.value p)
-  pub known : (x : K) (v : V) → found order x plain.entries ≡ Some v → (p : ℕ) × (w.state p ≡ InRing) × (order (w.key p) x ≡ Alike)
+  pub known : (x : K) (v : V) → found order x plain.entries ≡ Some v → (p : ℕ) × (w.state p ≡ InRing) × (order (w.key p) x ≡ Equal)
   pub apart : Apart order plain.entries
   pub counted : length plain.entries ≡ count_below (λ p. is_in_ring (w.state p)) n
 
 -- the invariant: d and e are any key and any value
-pub record Inv {K V : Type 0} (order : K → K → Order) (digest : K → Hash) (plain : Plain K V) (st : State K V) : Type 0 where
+pub record Inv {K V : Type 0} (order : K → K → Ordering) (digest : K → Hash) (plain : Plain K V) (st : State K V) : Type 0 where
   pub shape : Shape st
   pub kept : (d : K) (e : V) → Kept order (by_rank order digest st.core.bits) (bucket_of order digest st.core.bits) plain st.core.places (whole d e st)

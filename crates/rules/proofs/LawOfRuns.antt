@@ -1,12 +1,12 @@
 -- The run law: what holds of every state that satisfies the invariant holds after every run.
 use Rattle.std.proofs.Common.{◌≡◌, ℕ, List, [], ◌∷◌, Ok, Err, Option, Result, sym, refl, ap, ◌∙◌, subst, arith}
+use Rattle.std.specs.declared.cmp.Ordering.{Ordering}
 use Rattle.calls.specs.declared.call.Action.{Action}
 use Rattle.calls.specs.declared.call.Action.TheVariants.{Begin, Turn, Collect, Abandon}
 use Rattle.calls.specs.declared.call.Call.{Call}
 use Rattle.calls.specs.declared.fault.IndexFault.{IndexFault}
 use Rattle.calls.specs.declared.reply.Reply.{Reply}
 use Rattle.calls.specs.declared.reply.Reply.TheVariants.{Collected}
-use Rattle.keys.specs.declared.order.Order.{Order}
 use Rattle.keys.specs.Hashes.{Hash}
 use Rattle.keys.specs.Ranks.{LawfulKind}
 use Rattle.rules.specs.States.{State}
@@ -31,7 +31,7 @@ collected_is (Ok u) v h = cc
 collected_is (Err f) v h = let z : ◌≡◌ {A = ℕ} 0 1 = cc in absurd (omega arith)
 
 -- what one step from a state that satisfies the invariant answers
-module _ {K V : Type 0} (order : K → K → Order) (digest : K → Hash) (plain : Plain K V) (st : State K V) (inv : Inv order digest plain st) where
+module _ {K V : Type 0} (order : K → K → Ordering) (digest : K → Hash) (plain : Plain K V) (st : State K V) (inv : Inv order digest plain st) where
   -- (a) a collect answers what is noted
   step_collects : (s : ℕ) (a : Action K V) (r : Result (Reply V) IndexFault) → (step_by order digest st s a).0 ≡ r → Collects order digest plain a s r
   step_collects s (Begin t) r h = tt
@@ -43,7 +43,7 @@ module _ {K V : Type 0} (order : K → K → Order) (digest : K → Hash) (plain
   step_full : (s : ℕ) (a : Action K V) (r : Result (Reply V) IndexFault) → (step_by order digest st s a).0 ≡ r → FullAt order digest st.core.places plain r
   step_full s a r h = λ e. let b = refused_begins order digest st s a (h ∙ e) in full_when_refused order digest plain st inv s b.0 b.1
 
-module _ {K V : Type 0} (order : K → K → Order) (digest : K → Hash) (laws : LawfulKind order digest) where
+module _ {K V : Type 0} (order : K → K → Ordering) (digest : K → Hash) (laws : LawfulKind order digest) where
   -- the invariant holds after every run
   pub run_invariant : {es : List (Event K V)} {st : State K V} → Run order digest es st → Inv order digest (plain_after order es) st
   run_invariant {st = st} (new old k made) = making_kept order digest k old st made
@@ -82,21 +82,21 @@ module _ {K V : Type 0} (order : K → K → Order) (digest : K → Hash) (laws 
       }
 
 -- every step goes on with a run
-pub step_law : {K V : Type 0} (order : K → K → Order) (digest : K → Hash) → LawfulKind order digest → (st after : State K V) (e : Event K V) →
+pub step_law : {K V : Type 0} (order : K → K → Ordering) (digest : K → Hash) → LawfulKind order digest → (st after : State K V) (e : Event K V) →
     step order digest st e.call ≡ (e.reply, after) → GoesOn order digest st e after
 step_law order digest laws st after e stepped es run =
     let longer : Run order digest (e ∷ es) after = more e run stepped in
     (longer, run_law order digest laws (e ∷ es) after longer)
 
 -- an accepted making starts one
-pub make_law : {K V : Type 0} (order : K → K → Order) (digest : K → Hash) → LawfulKind order digest → (k : ℕ) (old st : State K V) (r : Result (Unit {0}) IndexFault) →
+pub make_law : {K V : Type 0} (order : K → K → Ordering) (digest : K → Hash) → LawfulKind order digest → (k : ℕ) (old st : State K V) (r : Result (Unit {0}) IndexFault) →
     (r, st) ≡ make k old → r ≡ Ok tt → Starts order digest st
 make_law order digest laws k old st r made accepted =
     let empty : Run order digest [] st = new old k (sym made ∙ ap (λ x. (x, st)) accepted) in
     (empty, run_law order digest laws [] st empty)
 
 -- a list of calls goes on with a run
-pub recorded_run : {K V : Type 0} (order : K → K → Order) (digest : K → Hash) (st : State K V) (cs : List (Call K V)) (es : List (Event K V)) →
+pub recorded_run : {K V : Type 0} (order : K → K → Ordering) (digest : K → Hash) (st : State K V) (cs : List (Call K V)) (es : List (Event K V)) →
     Run order digest es st → Run order digest (recorded order digest st cs es) (played order digest st cs).1
 recorded_run order digest st [] es run = run
 recorded_run order digest st (c ∷ cs) es run =
@@ -104,7 +104,7 @@ recorded_run order digest st (c ∷ cs) es run =
     recorded_run order digest done.1 cs (record { call = c; reply = done.0 } ∷ es) (more (record { call = c; reply = done.0 }) run refl)
 
 -- and from a making on it is sound
-pub replay_law : {K V : Type 0} (order : K → K → Order) (digest : K → Hash) → LawfulKind order digest → (k : ℕ) (old st after : State K V) (cs : List (Call K V)) →
+pub replay_law : {K V : Type 0} (order : K → K → Ordering) (digest : K → Hash) → LawfulKind order digest → (k : ℕ) (old st after : State K V) (cs : List (Call K V)) →
     make k old ≡ (Ok tt, st) → (played order digest st cs).1 ≡ after → Replays order digest st cs after
 replay_law order digest laws k old st after cs made reached =
     let run : Run order digest (recorded order digest st cs []) after =

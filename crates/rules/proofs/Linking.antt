@@ -2,9 +2,9 @@
 use Rattle.std.proofs.Common.{◌≡◌, ℕ, suc, Bool, true, false, Some, None, Option, sym, refl, ap, ◌∙◌, subst, arith}
 use Rattle.std.proofs.lemmas.Bool.{cases_eq}
 use Rattle.std.proofs.lemmas.Bool.Decides.{nat_tests}
+use Rattle.std.specs.declared.cmp.Ordering.{Ordering}
+use Rattle.std.specs.declared.cmp.Ordering.TheVariants.{Equal}
 use Rattle.calls.specs.declared.operation.Operation.TheVariants as operation
-use Rattle.keys.specs.declared.order.Order.{Order}
-use Rattle.keys.specs.declared.order.Order.TheVariants.{Alike}
 use Rattle.keys.proofs.Preorders.{total_preorder}
 use Rattle.rings.specs.Between.{between}
 use Rattle.rings.specs.Moves.{Linked, LinkedAlone}
@@ -44,10 +44,10 @@ entered s x next head v = record {
   gift = v.gift;
 }
 
-module _ {K V : Type 0} {order rank : K → K → Order} {bucket : K → ℕ} (kind : Kind order rank bucket) {plain : Plain K V} {n : ℕ} (v : Whole K V)
+module _ {K V : Type 0} {order rank : K → K → Ordering} {bucket : K → ℕ} (kind : Kind order rank bucket) {plain : Plain K V} {n : ℕ} (v : Whole K V)
     (s x : ℕ) (cursor : Option ℕ) (next : ℕ → ℕ) (head : ℕ → Option ℕ) (k : Kept order rank bucket plain n v)
     (at : v.stage s ≡ UnderWay (Seeking (job.Insert x) cursor))
-    (unlike : (p : ℕ) → v.state p ≡ InRing → order (v.key p) (v.want s) ≡ Alike → ⊥)
+    (unlike : (p : ℕ) → v.state p ≡ InRing → order (v.key p) (v.want s) ≡ Equal → ⊥)
     (claimed : (t p : ℕ) → claim_at (v.stage t) ≡ Some p → next p ≡ v.next p)
     (aside : (t y : ℕ) → (t ≡ s → ⊥) → aside_at (v.stage t) ≡ Some y → next y ≡ v.next y) where
   -- x is set aside
@@ -127,7 +127,7 @@ module _ {K V : Type 0} {order rank : K → K → Order} {bucket : K → ℕ} (k
       Kept order rank bucket (done_by order s operation.Insert v plain) n (entered s x next head v)
   entered_kept rings = ending_kept k entered_ends rings entered_agrees
 
-module _ {K V : Type 0} {order rank : K → K → Order} {bucket : K → ℕ} (kind : Kind order rank bucket) {plain : Plain K V} {n : ℕ} (v : Whole K V)
+module _ {K V : Type 0} {order rank : K → K → Ordering} {bucket : K → ℕ} (kind : Kind order rank bucket) {plain : Plain K V} {n : ℕ} (v : Whole K V)
     (s x : ℕ) (k : Kept order rank bucket plain n v) where
   -- an insert into a bucket with no head links its item alone there
   alone_kept :
@@ -168,7 +168,7 @@ module _ {K V : Type 0} {order rank : K → K → Order} {bucket : K → ℕ} (k
       let next = changed c x (changed x m v.next) in
       let w = entered s x next v.head v in
       let arc' : between rank (v.key c) (v.want s) (v.key (v.next c)) ≡ true = ap (λ p. between rank (v.key c) (v.want s) (v.key p)) leads ∙ arc in
-      let one_bucket = λ (a b : K) (e : rank a b ≡ Alike). kind.one_bucket a b (kind.same_rank a b e) in
+      let one_bucket = λ (a b : K) (e : rank a b ≡ Equal). kind.one_bucket a b (kind.same_rank a b e) in
       let linked : Linked (rings_of v) (rings_of w) c x = record {
         keys = λ p. refl;
         heads = λ b. refl;
@@ -186,7 +186,7 @@ module _ {K V : Type 0} {order rank : K → K → Order} {bucket : K → ℕ} (k
       (link_keeps_sound kind.ranked bucket one_bucket (rings_of v) (rings_of w) c x k.rings linked
       (ap is_in_ring c-in) (ap is_in_ring aside) (ap bucket key ∙ sym stood) (ap (λ q. between rank (v.key c) q (v.key (v.next c))) key ∙ arc'))
 
-module _ {K V : Type 0} {order rank : K → K → Order} {bucket : K → ℕ} (kind : Kind order rank bucket) {plain : Plain K V} {n : ℕ} (v : Whole K V)
+module _ {K V : Type 0} {order rank : K → K → Ordering} {bucket : K → ℕ} (kind : Kind order rank bucket) {plain : Plain K V} {n : ℕ} (v : Whole K V)
     (s : ℕ) (work : Work) (k : Kept order rank bucket plain n v) (at : v.stage s ≡ UnderWay work) (fifth : Bool) where
   -- what holds is kept when an insert links its item alone
   pub link_alone_kept :

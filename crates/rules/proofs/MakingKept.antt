@@ -3,8 +3,8 @@ use Rattle.std.proofs.Common.{◌≡◌, ℕ, zero, suc, ◌^◌, ◌≤◌, Boo
 use lib.ListN.{length-replicate}
 use Rattle.std.specs.List.{slice_get}
 use Rattle.std.proofs.lemmas.Bool.{ltb-false, leb-true, eqb-true}
+use Rattle.std.specs.declared.cmp.Ordering.{Ordering}
 use Rattle.calls.specs.declared.fault.IndexFault.TheVariants.{HeadBits, TableLengths}
-use Rattle.keys.specs.declared.order.Order.{Order}
 use Rattle.keys.specs.Hashes.{Hash}
 use Rattle.keys.specs.Ranks.{by_rank, bucket_of}
 use Rattle.rings.proofs.Counting.{count_none}
@@ -22,7 +22,7 @@ use Rattle.rules.proofs.Invariant.{Shape, Kept, Inv}
 use Rattle.rules.proofs.Views.{Whole, whole, state_in, mark_in, head_in, stage_in, cursor_at, aside_at, claim_at}
 
 -- a state in which every item is out and unoccupied, no bucket has a head and every session is idle
-module _ {K V : Type 0} (order rank : K → K → Order) (bucket : K → ℕ) (n : ℕ) (w : Whole K V) (out : (p : ℕ) → w.state p ≡ Out) (unmarked : (p : ℕ) → w.mark p ≡ false) (headless : (b : ℕ) → w.head b ≡ None) (all-idle : (s : ℕ) → w.stage s ≡ Idle) where
+module _ {K V : Type 0} (order rank : K → K → Ordering) (bucket : K → ℕ) (n : ℕ) (w : Whole K V) (out : (p : ℕ) → w.state p ≡ Out) (unmarked : (p : ℕ) → w.mark p ≡ false) (headless : (b : ℕ) → w.head b ≡ None) (all-idle : (s : ℕ) → w.stage s ≡ Idle) where
   -- nothing is in ring
   not_in_ring : (p : ℕ) → is_in_ring (w.state p) ≡ true → ⊥
   not_in_ring p ringed = let z : true ≡ false = sym ringed ∙ ap is_in_ring (out p) in grind arith
@@ -97,7 +97,7 @@ new_idle zero s = refl
 new_idle (suc n) zero = refl
 new_idle (suc n) (suc s) = new_idle n s
 
-module _ {K V : Type 0} (order : K → K → Order) (digest : K → Hash) (k : ℕ) (old : State K V) where
+module _ {K V : Type 0} (order : K → K → Ordering) (digest : K → Hash) (k : ℕ) (old : State K V) where
   -- the shape of an index made new
   made_shape : k ≤ 8 → is_makable k old ≡ true → Shape (made k old)
   made_shape few makable =

@@ -1,7 +1,7 @@
 -- The moves by which a session goes on seeking: it steps, leaves where it stood, gives up its claim, or waits.
 use Rattle.std.proofs.Common.{◌≡◌, ℕ, Bool, true, false, Some, None, Option, sym, refl, ap, ◌∙◌, inl, inr, arith}
 use Rattle.std.proofs.lemmas.Bool.{both_ways}
-use Rattle.keys.specs.declared.order.Order.{Order}
+use Rattle.std.specs.declared.cmp.Ordering.{Ordering}
 use Rattle.tables.specs.declared.item.ItemState.TheVariants.{InRing}
 use Rattle.tables.specs.declared.moves.Move.TheVariants.{Step, Leave, GiveUp, Wait}
 use Rattle.tables.specs.declared.session.Stage.TheVariants.{UnderWay}
@@ -21,7 +21,7 @@ abbrev pub remarked : {K V : Type 0} → (ℕ → Bool) → Whole K V → Whole 
 remarked marks w = record { state = w.state; key = w.key; value = w.value; next = w.next; mark = marks; head = w.head; stage = w.stage; want = w.want; gift = w.gift }
 
 -- session s of v, whose work is under way, and its claim, if any, given up
-module _ {K V : Type 0} {order rank : K → K → Order} {bucket : K → ℕ} {plain : Plain K V} {n : ℕ} {v : Whole K V} {s : ℕ} {work : Work}
+module _ {K V : Type 0} {order rank : K → K → Ordering} {bucket : K → ℕ} {plain : Plain K V} {n : ℕ} {v : Whole K V} {s : ℕ} {work : Work}
     (k : Kept order rank bucket plain n v) (e : v.stage s ≡ UnderWay work) (marks : ℕ → Bool)
     (off : (p : ℕ) → claim_of work ≡ Some p → marks p ≡ false) (rest : (p : ℕ) → (claim_of work ≡ Some p → ⊥) → marks p ≡ v.mark p) where
   -- a claim of another session is not this one's
@@ -77,7 +77,7 @@ module _ {K V : Type 0} {order rank : K → K → Order} {bucket : K → ℕ} {p
       (record { same = λ p. refl; keys = λ p i. refl; nexts = λ p i. refl; heads = λ b. refl })
       (λ p i. refl) (λ p out used. absurd (used out)) refl
 
-module _ {K V : Type 0} {order rank : K → K → Order} {bucket : K → ℕ} {plain : Plain K V} {n : ℕ} {v : Whole K V} {s : ℕ} {work : Work}
+module _ {K V : Type 0} {order rank : K → K → Ordering} {bucket : K → ℕ} {plain : Plain K V} {n : ℕ} {v : Whole K V} {s : ℕ} {work : Work}
     (k : Kept order rank bucket plain n v) (e : v.stage s ≡ UnderWay work) where
   -- a session that gives up its claim, if it has one, and goes on seeking
   pub seek_kept :
@@ -94,7 +94,7 @@ seeks_free (Seeking j cursor) h = refl
 seeks_free (Replacing x pair) h = absurd h
 seeks_free (Removing pair) h = absurd h
 
-module _ {K V : Type 0} {order rank : K → K → Order} {bucket : K → ℕ} {plain : Plain K V} {n : ℕ} {w : Whole K V} {s : ℕ} {work : Work}
+module _ {K V : Type 0} {order rank : K → K → Ordering} {bucket : K → ℕ} {plain : Plain K V} {n : ℕ} {w : Whole K V} {s : ℕ} {work : Work}
     (kind : Kind order rank bucket) (k : Kept order rank bucket plain n w) (e : w.stage s ≡ UnderWay work) (fifth : Bool) where
   -- a step keeps the invariant
   pub step_kept : (p : ℕ) → Grounds order rank bucket n w s work (Step p) → Kept order rank bucket plain n (act_view s (job_of work) fifth (bucket (w.want s)) (Step p) w)

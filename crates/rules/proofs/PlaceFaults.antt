@@ -1,6 +1,7 @@
 -- Only begin is refused for want of a place.
 use Rattle.std.proofs.Common.{◌≡◌, ℕ, Bool, true, false, Some, None, Ok, Err, Option, Result, refl, arith}
 use Rattle.std.specs.List.{slice_get}
+use Rattle.std.specs.declared.cmp.Ordering.{Ordering}
 use Rattle.calls.specs.declared.call.Action.{Action}
 use Rattle.calls.specs.declared.call.Action.TheVariants.{Begin, Turn, Collect, Abandon}
 use Rattle.calls.specs.declared.call.Task.{Task}
@@ -8,7 +9,6 @@ use Rattle.calls.specs.declared.fault.IndexFault.{IndexFault}
 use Rattle.calls.specs.declared.fault.IndexFault.TheVariants.{HeadBits, TableLengths, NotAsMade, NoSession, NotIdle, NoPlace, Idle, Ended, UnderWay, OutsideTable}
 use Rattle.calls.specs.declared.reply.Reply.{Reply}
 use Rattle.calls.specs.declared.reply.Reply.TheVariants.{Begun, Turned, Collected, Abandoned}
-use Rattle.keys.specs.declared.order.Order.{Order}
 use Rattle.keys.specs.Hashes.{Hash}
 use Rattle.keys.specs.Ranks.{bucket_of}
 use Rattle.tables.specs.declared.item.Item.{Item}
@@ -59,7 +59,7 @@ next_wants_none : {K V : Type 0} (n : ℕ) (it : Item K V) → wants_place (read
 next_wants_none n it = grind arith
 
 -- nor what a turn decides, stage by stage
-module _ {K V : Type 0} (order : K → K → Order) (digest : K → Hash) (st : State K V) (q : K) where
+module _ {K V : Type 0} (order : K → K → Ordering) (digest : K → Hash) (st : State K V) (q : K) where
   here_wants_none : wants_place (head_here order digest st q) ≡ false
   here_wants_none = head_wants_none st.core.places (slice_get st.heads (bucket_of order digest st.core.bits q))
 
@@ -96,7 +96,7 @@ module _ {K V : Type 0} (order : K → K → Order) (digest : K → Hash) (st : 
       let k = remove_wants_none pair (slice_get st.items pair.1) in
       grind arith
 
-module _ {K V : Type 0} (order : K → K → Order) (digest : K → Hash) (st : State K V) (s : ℕ) where
+module _ {K V : Type 0} (order : K → K → Ordering) (digest : K → Hash) (st : State K V) (s : ℕ) where
   -- nor a turn
   move_wants_none : (w : Work) (finds : ℕ) (r : Request K V) (m : Result (Move V) IndexFault) → wants_place m ≡ false → wants_place (turn_move order digest st s w finds r m).0 ≡ false
   move_wants_none w finds r (Ok m) h = refl
@@ -129,7 +129,7 @@ replied_wants reply (Ok a) h = let z : ◌≡◌ {A = ℕ} 0 1 = cc in absurd (o
 replied_wants reply (Err f) h = cc
 
 -- is the reply to a begin
-pub refused_begins : {K V : Type 0} (order : K → K → Order) (digest : K → Hash) (st : State K V) (s : ℕ) (a : Action K V) → (step_by order digest st s a).0 ≡ Err NoPlace →
+pub refused_begins : {K V : Type 0} (order : K → K → Ordering) (digest : K → Hash) (st : State K V) (s : ℕ) (a : Action K V) → (step_by order digest st s a).0 ≡ Err NoPlace →
     (t : Task K V) × ((begin st s t).0 ≡ Err NoPlace)
 refused_begins order digest st s (Begin t) h = (t, replied_wants (λ _. Begun) (begin st s t).0 h)
 refused_begins order digest st s Turn h =

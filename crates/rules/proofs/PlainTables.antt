@@ -1,9 +1,10 @@
 -- What the entries of a plain table hold, and how many they are, after one of them is put.
 use Rattle.std.proofs.Common.{◌≡◌, ℕ, suc, ◌⊎◌, List, [], ◌∷◌, length, Some, None, Option, sym, refl, ap, ◌∙◌, inl, inr, arith}
 use Rattle.std.proofs.lemmas.Bool.{cond_both}
-use Rattle.keys.specs.declared.order.Order.{Order}
-use Rattle.keys.specs.declared.order.Order.TheVariants.{Before, Alike, After}
-use Rattle.keys.specs.Orders.{Lawful, is_alike}
+use Rattle.std.specs.declared.cmp.Ordering.{Ordering}
+use Rattle.std.specs.declared.cmp.Ordering.TheVariants.{Less, Equal, Greater}
+use Rattle.std.specs.Ordering.{is_eq}
+use Rattle.keys.specs.Orders.{Lawful}
 use Rattle.keys.proofs.Preorders.{total_preorder}
 use Rattle.calls.specs.declared.operation.Operation.{Operation}
 use Rattle.calls.specs.declared.operation.Operation.TheVariants.{Insert, Write, Replace, Remove}
@@ -16,12 +17,12 @@ found_cases None = inl refl
 found_cases (Some v) = inr (v, refl)
 
 -- two keys are alike or not
-pub alike_cases : (o : Order) → (o ≡ Alike) ⊎ (o ≡ Alike → ⊥)
-alike_cases Before = inr (λ e. let z : ◌≡◌ {A = ℕ} 0 1 = cc in omega arith)
-alike_cases Alike = inl refl
-alike_cases After = inr (λ e. let z : ◌≡◌ {A = ℕ} 0 1 = cc in omega arith)
+pub alike_cases : (o : Ordering) → (o ≡ Equal) ⊎ (o ≡ Equal → ⊥)
+alike_cases Less = inr (λ e. let z : ◌≡◌ {A = ℕ} 0 1 = cc in omega arith)
+alike_cases Equal = inl refl
+alike_cases Greater = inr (λ e. let z : ◌≡◌ {A = ℕ} 0 1 = cc in omega arith)
 
-module _ {K V : Type 0} (order : K → K → Order) where
+module _ {K V : Type 0} (order : K → K → Ordering) where
   -- a value stored at a key that is present leaves as many entries
   pub length_stored_present : (x : K) (v u : V) (es : List (K × V)) → found order x es ≡ Some u → length (stored order x v es) ≡ length es
   length_stored_present x v u [] h = let z : ◌≡◌ {A = ℕ} 0 1 = cc in absurd (omega arith)
@@ -51,12 +52,12 @@ module _ {K V : Type 0} (order : K → K → Order) where
   pub apart_deleted : (x : K) (es : List (K × V)) → Apart order es → Apart order (deleted order x es)
   apart_deleted x [] a = tt
   apart_deleted x (e ∷ es) a =
-      cond_both (is_alike (order e.0 x)) es (e ∷ deleted order x es) (Apart order) (λ t. a.1)
+      cond_both (is_eq (order e.0 x)) es (e ∷ deleted order x es) (Apart order) (λ t. a.1)
       (λ t. (deleted_none x e.0 es a.0, apart_deleted x es a.1))
 
-module _ {K V : Type 0} {order : K → K → Order} (laws : Lawful order) where
+module _ {K V : Type 0} {order : K → K → Ordering} (laws : Lawful order) where
   -- alike keys have the same value
-  pub found_alike : (x y : K) (es : List (K × V)) → order x y ≡ Alike → found order x es ≡ found order y es
+  pub found_alike : (x y : K) (es : List (K × V)) → order x y ≡ Equal → found order x es ≡ found order y es
   found_alike x y [] h = refl
   found_alike x y (e ∷ es) h =
       let ih = found_alike x y es h in
@@ -64,7 +65,7 @@ module _ {K V : Type 0} {order : K → K → Order} (laws : Lawful order) where
       grind arith
 
   -- a value stored at a key is found there
-  pub found_stored_same : (x y : K) (v : V) (es : List (K × V)) → order x y ≡ Alike → found order y (stored order x v es) ≡ Some v
+  pub found_stored_same : (x y : K) (v : V) (es : List (K × V)) → order x y ≡ Equal → found order y (stored order x v es) ≡ Some v
   found_stored_same x y v [] h = grind arith
   found_stored_same x y v (e ∷ es) h =
       let ih = found_stored_same x y v es h in
@@ -72,7 +73,7 @@ module _ {K V : Type 0} {order : K → K → Order} (laws : Lawful order) where
       grind arith
 
   -- and what another key has stays
-  pub found_stored_other : (x y : K) (v : V) (es : List (K × V)) → (order x y ≡ Alike → ⊥) → found order y (stored order x v es) ≡ found order y es
+  pub found_stored_other : (x y : K) (v : V) (es : List (K × V)) → (order x y ≡ Equal → ⊥) → found order y (stored order x v es) ≡ found order y es
   found_stored_other x y v [] h = grind arith
   found_stored_other x y v (e ∷ es) h =
       let ih = found_stored_other x y v es h in
@@ -80,7 +81,7 @@ module _ {K V : Type 0} {order : K → K → Order} (laws : Lawful order) where
       grind arith
 
   -- a key that is deleted is absent
-  pub found_deleted_same : (x y : K) (es : List (K × V)) → Apart order es → order x y ≡ Alike → found order y (deleted order x es) ≡ None
+  pub found_deleted_same : (x y : K) (es : List (K × V)) → Apart order es → order x y ≡ Equal → found order y (deleted order x es) ≡ None
   found_deleted_same x y [] a h = refl
   found_deleted_same x y (e ∷ es) a h =
       let ih = found_deleted_same x y es a.1 h in
@@ -90,7 +91,7 @@ module _ {K V : Type 0} {order : K → K → Order} (laws : Lawful order) where
       grind arith
 
   -- and what another key has stays
-  pub found_deleted_other : (x y : K) (es : List (K × V)) → (order x y ≡ Alike → ⊥) → found order y (deleted order x es) ≡ found order y es
+  pub found_deleted_other : (x y : K) (es : List (K × V)) → (order x y ≡ Equal → ⊥) → found order y (deleted order x es) ≡ found order y es
   found_deleted_other x y [] h = refl
   found_deleted_other x y (e ∷ es) h =
       let ih = found_deleted_other x y es h in
@@ -101,19 +102,19 @@ module _ {K V : Type 0} {order : K → K → Order} (laws : Lawful order) where
   pub apart_stored : (x : K) (v : V) (es : List (K × V)) → Apart order es → Apart order (stored order x v es)
   apart_stored x v [] a = (refl, tt)
   apart_stored x v (e ∷ es) a =
-      cond_both (is_alike (order e.0 x)) ((e.0, v) ∷ es) (e ∷ stored order x v es) (Apart order) (λ t. (a.0, a.1))
+      cond_both (is_eq (order e.0 x)) ((e.0, v) ∷ es) (e ∷ stored order x v es) (Apart order) (λ t. (a.0, a.1))
       (λ t.
       let r = (total_preorder laws).alike_turned x e.0 in
-      let far : order x e.0 ≡ Alike → ⊥ = grind arith in
+      let far : order x e.0 ≡ Equal → ⊥ = grind arith in
       (found_stored_other x e.0 v es far ∙ a.0, apart_stored x v es a.1))
 
   -- a key has what is put there
-  pub found_put_same : (x y : K) (o : Option V) (es : List (K × V)) → Apart order es → order x y ≡ Alike → found order y (put order x o es) ≡ o
+  pub found_put_same : (x y : K) (o : Option V) (es : List (K × V)) → Apart order es → order x y ≡ Equal → found order y (put order x o es) ≡ o
   found_put_same x y None es a h = found_deleted_same x y es a h
   found_put_same x y (Some v) es a h = found_stored_same x y v es h
 
   -- and what another key has stays
-  pub found_put_other : (x y : K) (o : Option V) (es : List (K × V)) → (order x y ≡ Alike → ⊥) → found order y (put order x o es) ≡ found order y es
+  pub found_put_other : (x y : K) (o : Option V) (es : List (K × V)) → (order x y ≡ Equal → ⊥) → found order y (put order x o es) ≡ found order y es
   found_put_other x y None es h = found_deleted_other x y es h
   found_put_other x y (Some v) es h = found_stored_other x y v es h
 
@@ -130,7 +131,7 @@ module _ {K V : Type 0} {order : K → K → Order} (laws : Lawful order) where
         | inr far ↦ found_put_other x y o es far
       ]
 
-module _ {K V : Type 0} (order : K → K → Order) where
+module _ {K V : Type 0} (order : K → K → Ordering) where
   -- a key that has again what it had leaves as many entries
   pub length_put_back : (x : K) (o : Option V) (es : List (K × V)) → found order x es ≡ o → length (put order x o es) ≡ length es
   length_put_back x None es h = ap length (deleted_absent order x es h)

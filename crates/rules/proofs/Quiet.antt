@@ -2,7 +2,7 @@
 use Rattle.std.proofs.Common.{◌≡◌, ℕ, suc, ◌<◌, true, eqb, ◌⊎◌, length, Some, None, Option, sym, refl, ap, ◌∙◌, subst, inl, inr, arith}
 use mathlib.Core.Path.{fun_ext}
 use Rattle.std.proofs.lemmas.Bool.{cases_eq, cond-true, cond-false, eq-eqb, ne_eqb}
-use Rattle.keys.specs.declared.order.Order.{Order}
+use Rattle.std.specs.declared.cmp.Ordering.{Ordering}
 use Rattle.rings.proofs.Nexts.{untouched_keeps_sound}
 use Rattle.rings.specs.Moves.{Untouched}
 use Rattle.rings.specs.RingLists.{count_below}
@@ -45,7 +45,7 @@ out_cases Out = inl refl
 out_cases SetAside = inr (λ e. let z : ◌≡◌ {A = ℕ} 0 1 = cc in omega arith)
 out_cases InRing = inr (λ e. let z : ◌≡◌ {A = ℕ} 0 1 = cc in omega arith)
 
-module _ {K V : Type 0} {order : K → K → Order} {plain plain' : Plain K V} {n : ℕ} {v w : Whole K V} where
+module _ {K V : Type 0} {order : K → K → Ordering} {plain plain' : Plain K V} {n : ℕ} {v w : Whole K V} where
   -- the plain table still has what is in ring, if keys have the values that they had
   pub untouched_agrees :
       Untouched (rings_of v) (rings_of w) → ((p : ℕ) → v.state p ≡ InRing → w.value p ≡ v.value p) →
@@ -64,7 +64,7 @@ module _ {K V : Type 0} {order : K → K → Order} {plain plain' : Plain K V} {
     counted = long ∙ a.counted ∙ ap (λ test. count_below test n) (fun_ext (λ p. sym (u.same p)));
   }
 
-module _ {K V : Type 0} {order rank : K → K → Order} {bucket : K → ℕ} {plain plain' : Plain K V} {n : ℕ} {v w : Whole K V} where
+module _ {K V : Type 0} {order rank : K → K → Ordering} {bucket : K → ℕ} {plain plain' : Plain K V} {n : ℕ} {v w : Whole K V} where
   -- a call that frames the others and leaves the rings, the values in ring and the entries alone
   pub quiet_kept :
       (s : ℕ) → Kept order rank bucket plain n v → Frame v w s → ((t : ℕ) → (t ≡ s → ⊥) → plain'.notes t ≡ plain.notes t) →
@@ -86,7 +86,7 @@ revalued values heads w = record { state = w.state; key = w.key; value = values;
 
 -- no session moves, whichever the call is on, if what they have set aside keeps its values
 revalued_frame :
-    {K V : Type 0} {order rank : K → K → Order} {bucket : K → ℕ} {plain : Plain K V} {n : ℕ} {w : Whole K V} (values : ℕ → V) (heads : ℕ → Option ℕ) →
+    {K V : Type 0} {order rank : K → K → Ordering} {bucket : K → ℕ} {plain : Plain K V} {n : ℕ} {w : Whole K V} (values : ℕ → V) (heads : ℕ → Option ℕ) →
     Kept order rank bucket plain n w → ((x : ℕ) → w.state x ≡ SetAside → values x ≡ w.value x) → (s : ℕ) → Frame w (revalued values heads w) s
 revalued_frame values heads k asides s = record {
   stages = λ t differs. refl;
@@ -100,7 +100,7 @@ revalued_frame values heads k asides s = record {
 -- other values and heads keep the invariant, if what is set aside keeps its values, the rings are sound with these heads, and the
 -- plain table agrees
 pub revalued_kept :
-    {K V : Type 0} {order rank : K → K → Order} {bucket : K → ℕ} (plain plain' : Plain K V) {n : ℕ} (w : Whole K V) (values : ℕ → V) (heads : ℕ → Option ℕ) →
+    {K V : Type 0} {order rank : K → K → Ordering} {bucket : K → ℕ} (plain plain' : Plain K V) {n : ℕ} (w : Whole K V) (values : ℕ → V) (heads : ℕ → Option ℕ) →
     Kept order rank bucket plain n w → ((x : ℕ) → w.state x ≡ SetAside → values x ≡ w.value x) → Sound rank bucket (rings_of (revalued values heads w)) →
     ((s : ℕ) → plain'.notes s ≡ plain.notes s) → Agrees order plain' n (revalued values heads w) → Kept order rank bucket plain' n (revalued values heads w)
 revalued_kept plain plain' w values heads k asides rings notes agrees =
@@ -111,7 +111,7 @@ revalued_kept plain plain' w values heads k asides rings notes agrees =
 
 -- the same state by a plain table in which each key has the same value
 pub entries_kept :
-    {K V : Type 0} {order rank : K → K → Order} {bucket : K → ℕ} (plain plain' : Plain K V) {n : ℕ} (w : Whole K V) →
+    {K V : Type 0} {order rank : K → K → Ordering} {bucket : K → ℕ} (plain plain' : Plain K V) {n : ℕ} (w : Whole K V) →
     ((s : ℕ) → plain'.notes s ≡ plain.notes s) → ((x : K) → found order x plain'.entries ≡ found order x plain.entries) →
     Apart order plain'.entries → length plain'.entries ≡ length plain.entries →
     Kept order rank bucket plain n w → Kept order rank bucket plain' n w
@@ -121,7 +121,7 @@ entries_kept plain plain' w notes same apart long k =
 
 -- a place in ring may become the head of its bucket
 head_sound :
-    {K : Type 0} {rank : K → K → Order} {bucket : K → ℕ} (v : View K) (b p : ℕ) → Sound rank bucket v → v.in_ring p ≡ true → bucket (v.key p) ≡ b →
+    {K : Type 0} {rank : K → K → Ordering} {bucket : K → ℕ} (v : View K) (b p : ℕ) → Sound rank bucket v → v.in_ring p ≡ true → bucket (v.key p) ≡ b →
     Sound rank bucket (record { in_ring = v.in_ring; key = v.key; next = v.next; head = changed b (Some p) v.head })
 head_sound {bucket = bucket} v b p s i e = record {
   next_in_ring = s.next_in_ring;
@@ -135,7 +135,7 @@ head_sound {bucket = bucket} v b p s i e = record {
 
 -- a head that moves to a place in ring of its bucket keeps the invariant
 pub head_kept :
-    {K V : Type 0} {order rank : K → K → Order} {bucket : K → ℕ} (plain : Plain K V) {n : ℕ} (w : Whole K V) (b p : ℕ) →
+    {K V : Type 0} {order rank : K → K → Ordering} {bucket : K → ℕ} (plain : Plain K V) {n : ℕ} (w : Whole K V) (b p : ℕ) →
     w.state p ≡ InRing → bucket (w.key p) ≡ b → Kept order rank bucket plain n w → Kept order rank bucket plain n (set_head b (Some p) w)
 head_kept plain w b p i e k =
     revalued_kept plain plain w w.value (changed b (Some p) w.head) k (λ x a. refl) (head_sound (rings_of w) b p k.rings (ap is_in_ring i) e) (λ s. refl)

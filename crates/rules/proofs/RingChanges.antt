@@ -4,9 +4,9 @@ use Rattle.std.proofs.Common.{◌≡◌, ℕ, suc, ◌<◌, Bool, true, false, c
 use mathlib.Core.Path.{fun_ext}
 use Rattle.std.proofs.lemmas.Bool.{cases_eq}
 use Rattle.std.proofs.lemmas.Bool.Decides.{nat_tests}
+use Rattle.std.specs.declared.cmp.Ordering.{Ordering}
+use Rattle.std.specs.declared.cmp.Ordering.TheVariants.{Equal}
 use Rattle.calls.specs.declared.operation.Operation.{Operation}
-use Rattle.keys.specs.declared.order.Order.{Order}
-use Rattle.keys.specs.declared.order.Order.TheVariants.{Alike}
 use Rattle.keys.specs.Orders.{Lawful}
 use Rattle.keys.proofs.Preorders.{total_preorder}
 use Rattle.rings.specs.RingLists.{count_below}
@@ -30,7 +30,7 @@ count_more f g m fails passes same n l =
     count_one g m passes n l ∙ ap (λ test. suc (count_below test n)) (fun_ext others)
 
 -- the plain table after session s has done this operation
-abbrev pub done_by : {K V : Type 0} → (K → K → Order) → ℕ → Operation → Whole K V → Plain K V → Plain K V
+abbrev pub done_by : {K V : Type 0} → (K → K → Ordering) → ℕ → Operation → Whole K V → Plain K V → Plain K V
 done_by order s o v plain = do_task order s (record { operation = o; key = v.want s; value = v.gift s }) plain
 
 -- session s ends its work: no key changes, the other sessions stand where they stood, and what they have set aside
@@ -56,7 +56,7 @@ pub record Ending {K V : Type 0} (plain after : Plain K V) (v w : Whole K V) (s 
   pub claim_mark : (t p : ℕ) → (t ≡ s → ⊥) → claim_at (v.stage t) ≡ Some p → w.mark p ≡ true
   pub claim_next : (t p : ℕ) → (t ≡ s → ⊥) → claim_at (v.stage t) ≡ Some p → w.next p ≡ v.next p
 
-module _ {K V : Type 0} {order rank : K → K → Order} {bucket : K → ℕ} {plain after : Plain K V} {n : ℕ} {v w : Whole K V} {s : ℕ}
+module _ {K V : Type 0} {order rank : K → K → Ordering} {bucket : K → ℕ} {plain after : Plain K V} {n : ℕ} {v w : Whole K V} {s : ℕ}
     (k : Kept order rank bucket plain n v) (e : Ending plain after v w s) where
   -- the other sessions keep what is theirs
   ending_frame : Frame v w s
@@ -96,15 +96,15 @@ module _ {K V : Type 0} {order rank : K → K → Order} {bucket : K → ℕ} {p
 
 -- the key q has o in the plain table after it: items with other keys stay in ring with their values, or out of it;
 -- an item in ring with this key has this value, and there is one if there is a value
-pub record Puts {K V : Type 0} (order : K → K → Order) (v w : Whole K V) (q : K) (o : Option V) : Type 0 where
+pub record Puts {K V : Type 0} (order : K → K → Ordering) (v w : Whole K V) (q : K) (o : Option V) : Type 0 where
   pub keys : (p : ℕ) → w.key p ≡ v.key p
-  pub stayed : (p : ℕ) → (order (v.key p) q ≡ Alike → ⊥) → w.state p ≡ InRing → v.state p ≡ InRing
-  pub values : (p : ℕ) → (order (v.key p) q ≡ Alike → ⊥) → w.state p ≡ InRing → w.value p ≡ v.value p
-  pub stays : (p : ℕ) → (order (v.key p) q ≡ Alike → ⊥) → v.state p ≡ InRing → w.state p ≡ InRing
-  pub here : (p : ℕ) → order (v.key p) q ≡ Alike → w.state p ≡ InRing → o ≡ Some (w.value p)
-  pub there : (u : V) → o ≡ Some u → (p : ℕ) × (w.state p ≡ InRing) × (order (v.key p) q ≡ Alike)
+  pub stayed : (p : ℕ) → (order (v.key p) q ≡ Equal → ⊥) → w.state p ≡ InRing → v.state p ≡ InRing
+  pub values : (p : ℕ) → (order (v.key p) q ≡ Equal → ⊥) → w.state p ≡ InRing → w.value p ≡ v.value p
+  pub stays : (p : ℕ) → (order (v.key p) q ≡ Equal → ⊥) → v.state p ≡ InRing → w.state p ≡ InRing
+  pub here : (p : ℕ) → order (v.key p) q ≡ Equal → w.state p ≡ InRing → o ≡ Some (w.value p)
+  pub there : (u : V) → o ≡ Some u → (p : ℕ) × (w.state p ≡ InRing) × (order (v.key p) q ≡ Equal)
 
-module _ {K V : Type 0} {order rank : K → K → Order} {bucket : K → ℕ} {plain : Plain K V} {n : ℕ} {v w : Whole K V} {q : K} {o : Option V}
+module _ {K V : Type 0} {order rank : K → K → Ordering} {bucket : K → ℕ} {plain : Plain K V} {n : ℕ} {v w : Whole K V} {q : K} {o : Option V}
     (after : Plain K V) (entries : after.entries ≡ put order q o plain.entries) (laws : Lawful order) (k : Kept order rank bucket plain n v) (c : Puts order v w q o) where
   -- then the plain table with o put at q agrees, if its length does
   pub puts_agree : length after.entries ≡ count_below (λ p. is_in_ring (w.state p)) n → Agrees order after n w
@@ -132,7 +132,7 @@ module _ {K V : Type 0} {order rank : K → K → Order} {bucket : K → ℕ} {p
               (t.0, t.1, cc))
           | inr far ↦
               (let t = k.known x u (sym (found_put_other laws q x o plain.entries far) ∙ now) in
-              let unlike : order (v.key t.0) q ≡ Alike → ⊥ = λ z.
+              let unlike : order (v.key t.0) q ≡ Equal → ⊥ = λ z.
               far ((total_preorder laws).alike_chained q (v.key t.0) x ((total_preorder laws).alike_turned (v.key t.0) q z) t.2) in
               let r = c.keys t.0 in
               let i = t.2 in

@@ -2,7 +2,7 @@
 use Rattle.std.proofs.Common.{◌≡◌, ℕ, ◌^◌, ◌<◌, true, eqb, List, [], ◌∷◌, Some, None, Option, sym, refl, ap, ◌∙◌, subst, inl, inr, arith}
 use Rattle.std.specs.List.{slice_get}
 use Rattle.std.proofs.lemmas.Bool.{eqb-true, cases_Bool}
-use Rattle.keys.specs.declared.order.Order.{Order}
+use Rattle.std.specs.declared.cmp.Ordering.{Ordering}
 use Rattle.keys.specs.Hashes.{Hash}
 use Rattle.keys.proofs.Preorders.{total_preorder}
 use Rattle.keys.specs.Ranks.{LawfulKind, by_rank, bucket_of}
@@ -48,7 +48,7 @@ leads_from items from [] to f = f
 leads_from items from (p ∷ ps) to f =
     (f.0, λ it e. leads_from items it.next ps to (subst (λ m. Follows (λ q. next_in (slice_get items q)) m ps to) (ap next_in e) f.1))
 
-module _ {K V : Type 0} (order : K → K → Order) (digest : K → Hash) (laws : LawfulKind order digest) (plain : Plain K V) (st : State K V) (d : K) (e : V)
+module _ {K V : Type 0} (order : K → K → Ordering) (digest : K → Hash) (laws : LawfulKind order digest) (plain : Plain K V) (st : State K V) (d : K) (e : V)
     (kept : Kept order (by_rank order digest st.core.bits) (bucket_of order digest st.core.bits) plain st.core.places (whole d e st)) (b : ℕ) where
   -- a bucket with a head: the list of its ring
   headed_ring : (h : ℕ) (places : List ℕ) → slice_get st.heads b ≡ Some h →
@@ -120,7 +120,7 @@ module _ {K V : Type 0} (order : K → K → Order) (digest : K → Hash) (laws 
       (listed.0, headed_ring h listed.0 (written ∙ head_written (Some x) h read) listed.1)
 
 -- every bucket has its ring
-pub ring_of_bucket : {K V : Type 0} (order : K → K → Order) (digest : K → Hash) → LawfulKind order digest → (plain : Plain K V) (st : State K V) → Inv order digest plain st →
+pub ring_of_bucket : {K V : Type 0} (order : K → K → Ordering) (digest : K → Hash) → LawfulKind order digest → (plain : Plain K V) (st : State K V) → Inv order digest plain st →
     (b : ℕ) → b < 2 ^ st.core.bits → (places : List ℕ) × Ring order digest st plain b places
 ring_of_bucket order digest laws plain st inv b small =
     let it = (first_item st inv.shape).0 in

@@ -1,11 +1,11 @@
 -- No call changes the number of places or of head bits, in any state.
 use Rattle.std.proofs.Common.{◌≡◌, ℕ, Some, None, Ok, Err, Option, Result, refl}
 use Rattle.std.specs.List.{slice_get}
+use Rattle.std.specs.declared.cmp.Ordering.{Ordering}
 use Rattle.calls.specs.declared.call.Action.{Action}
 use Rattle.calls.specs.declared.call.Action.TheVariants.{Begin, Turn, Collect, Abandon}
 use Rattle.calls.specs.declared.call.Task.{Task}
 use Rattle.calls.specs.declared.fault.IndexFault.{IndexFault}
-use Rattle.keys.specs.declared.order.Order.{Order}
 use Rattle.keys.specs.Hashes.{Hash}
 use Rattle.keys.specs.Ranks.{bucket_of}
 use Rattle.tables.specs.declared.moves.Move.{Move}
@@ -95,7 +95,7 @@ module _ {K V : Type 0} (st : State K V) where
   abandon_sized s (Ok session) = abandon_stage_sized s session.stage
   abandon_sized s (Err f) = (refl, refl)
 
-  module _ (order : K → K → Order) (digest : K → Hash) where
+  module _ (order : K → K → Ordering) (digest : K → Hash) where
     -- a turn, by what it decides
     turn_move_sized : (s : ℕ) (work : Work) (finds : ℕ) (r : Request K V) (m : Result (Move V) IndexFault) → Sized (turn_move order digest st s work finds r m).1
     turn_move_sized s work finds r (Ok m) = act_sized s (job_of work) finds r (bucket_of order digest st.core.bits r.key) m

@@ -2,6 +2,7 @@
 use Rattle.std.proofs.Common.{◌≡◌, ℕ, ◌^◌, ◌<◌, Bool, not, ltb, Some, None, Ok, Err, Option, Result, sym, refl, ap, ◌∙◌, subst, arith}
 use Rattle.std.specs.List.{slice_get}
 use Rattle.std.specs.Option.{ok_or}
+use Rattle.std.specs.declared.cmp.Ordering.{Ordering}
 use Rattle.calls.specs.declared.call.Action.{Action}
 use Rattle.calls.specs.declared.call.Action.TheVariants.{Begin, Turn, Collect, Abandon}
 use Rattle.calls.specs.declared.call.Call.{Call}
@@ -12,7 +13,6 @@ use Rattle.calls.specs.declared.operation.Operation.{Operation}
 use Rattle.calls.specs.declared.operation.Operation.TheVariants as operation
 use Rattle.calls.specs.declared.reply.Reply.{Reply}
 use Rattle.calls.specs.declared.reply.Reply.TheVariants.{Begun, Turned, Collected, Abandoned}
-use Rattle.keys.specs.declared.order.Order.{Order}
 use Rattle.keys.specs.Hashes.{Hash}
 use Rattle.keys.specs.Ranks.{LawfulKind, by_rank, bucket_of}
 use Rattle.keys.proofs.RankOrder.{rank_laws}
@@ -56,7 +56,7 @@ use Rattle.rules.proofs.Views.{Whole, whole, want_in, stage_in, act_view}
 use Rattle.rules.proofs.Writable.{grounds_write, aside_within, claim_within}
 
 -- a turn that has decided, by place
-module _ {K V : Type 0} {order rank : K → K → Order} {bucket : K → ℕ} (kind : Kind order rank bucket) {plain : Plain K V} {n : ℕ} {w : Whole K V} {s : ℕ} {work : Work}
+module _ {K V : Type 0} {order rank : K → K → Ordering} {bucket : K → ℕ} (kind : Kind order rank bucket) {plain : Plain K V} {n : ℕ} {w : Whole K V} {s : ℕ} {work : Work}
     (kept : Kept order rank bucket plain n w) (under_way : w.stage s ≡ UnderWay work) (fifth : Bool) (st : State K V) (finds : ℕ) (r : Request K V) (b : ℕ) where
   -- a move that ends does the task that is noted
   ends_kept :
@@ -92,9 +92,9 @@ job_for_does None operation.Replace j is = absurd (grind arith)
 job_for_does free operation.Remove j is = (grind arith, λ x h. absurd (grind arith))
 job_for_does free operation.Point j is = (grind arith, λ x h. absurd (grind arith))
 
-module _ {K V : Type 0} (order : K → K → Order) (digest : K → Hash) (laws : LawfulKind order digest) (plain : Plain K V) (st : State K V) (inv : Inv order digest plain st) where
+module _ {K V : Type 0} (order : K → K → Ordering) (digest : K → Hash) (laws : LawfulKind order digest) (plain : Plain K V) (st : State K V) (inv : Inv order digest plain st) where
   -- the order by rank in the index
-  abbrev rank : K → K → Order
+  abbrev rank : K → K → Ordering
   rank = by_rank order digest st.core.bits
 
   -- the buckets of the index
@@ -272,7 +272,7 @@ module _ {K V : Type 0} (order : K → K → Order) (digest : K → Hash) (laws 
 
 -- every step keeps the invariant, with the plain table that was fed the call and what was heard of it
 pub step_keeps :
-    {K V : Type 0} (order : K → K → Order) (digest : K → Hash) → LawfulKind order digest →
+    {K V : Type 0} (order : K → K → Ordering) (digest : K → Hash) → LawfulKind order digest →
     (plain : Plain K V) (st after : State K V) (c : Call K V) (r : Result (Reply V) IndexFault) →
     Inv order digest plain st → step order digest st c ≡ (r, after) → Inv order digest (feed order c (heard r) plain) after
 step_keeps order digest laws plain st after c r inv stepped =
@@ -280,12 +280,12 @@ step_keeps order digest laws plain st after c r inv stepped =
 
 -- every step leaves as many places as there were
 pub step_places :
-    {K V : Type 0} (order : K → K → Order) (digest : K → Hash) (st after : State K V) (c : Call K V) (r : Result (Reply V) IndexFault) →
+    {K V : Type 0} (order : K → K → Ordering) (digest : K → Hash) (st after : State K V) (c : Call K V) (r : Result (Reply V) IndexFault) →
     step order digest st c ≡ (r, after) → after.core.places ≡ st.core.places
 step_places order digest st after c r stepped = ap (λ done. done.1.core.places) (sym stepped) ∙ (step_sized st order digest c.session c.action).0
 
 -- and as many head bits
 pub step_bits :
-    {K V : Type 0} (order : K → K → Order) (digest : K → Hash) (st after : State K V) (c : Call K V) (r : Result (Reply V) IndexFault) →
+    {K V : Type 0} (order : K → K → Ordering) (digest : K → Hash) (st after : State K V) (c : Call K V) (r : Result (Reply V) IndexFault) →
     step order digest st c ≡ (r, after) → after.core.bits ≡ st.core.bits
 step_bits order digest st after c r stepped = ap (λ done. done.1.core.bits) (sym stepped) ∙ (step_sized st order digest c.session c.action).1

@@ -1,7 +1,7 @@
 -- A session stops: it ends, or is collected or abandoned. What it has set aside goes out, and what it has claimed is marked no more.
 use Rattle.std.proofs.Common.{◌≡◌, ℕ, Bool, true, false, Some, None, Option, sym, refl, ap, ◌∙◌, inl, inr, arith}
 use Rattle.std.proofs.lemmas.Bool.{both_ways}
-use Rattle.keys.specs.declared.order.Order.{Order}
+use Rattle.std.specs.declared.cmp.Ordering.{Ordering}
 use Rattle.tables.specs.declared.item.ItemState.{ItemState}
 use Rattle.tables.specs.declared.item.ItemState.TheVariants.{Out, InRing}
 use Rattle.tables.specs.declared.session.Job.{Job}
@@ -21,7 +21,7 @@ abbrev pub regifted : {K V : Type 0} → (ℕ → V) → Whole K V → Whole K V
 regifted gifts w = record { state = w.state; key = w.key; value = w.value; next = w.next; mark = w.mark; head = w.head; stage = w.stage; want = w.want; gift = gifts }
 
 -- session s of v stops: states are the states after it, marks the marks and gifts the answers
-module _ {K V : Type 0} {order rank : K → K → Order} {bucket : K → ℕ} {plain : Plain K V} {n : ℕ} {v : Whole K V}
+module _ {K V : Type 0} {order rank : K → K → Ordering} {bucket : K → ℕ} {plain : Plain K V} {n : ℕ} {v : Whole K V}
     (k : Kept order rank bucket plain n v) (s : ℕ) (states : ℕ → ItemState) (marks : ℕ → Bool) (gifts : ℕ → V)
     (out : (x : ℕ) → aside_at (v.stage s) ≡ Some x → states x ≡ Out) (in_place : (p : ℕ) → (aside_at (v.stage s) ≡ Some p → ⊥) → states p ≡ v.state p)
     (off : (p : ℕ) → claim_at (v.stage s) ≡ Some p → marks p ≡ false) (as-marked : (p : ℕ) → (claim_at (v.stage s) ≡ Some p → ⊥) → marks p ≡ v.mark p)
@@ -106,7 +106,7 @@ module _ {X : Type 0} (x : X) (f : ℕ → X) where
   changed_not_there o None e p i = refl
   changed_not_there o (Some j) e p i = changed_elsewhere j x f p (λ same. i (e ∙ ap Some (sym same)))
 
-module _ {K V : Type 0} {order rank : K → K → Order} {bucket : K → ℕ} {plain : Plain K V} {n : ℕ} {v : Whole K V}
+module _ {K V : Type 0} {order rank : K → K → Ordering} {bucket : K → ℕ} {plain : Plain K V} {n : ℕ} {v : Whole K V}
     (k : Kept order rank bucket plain n v) (s : ℕ) (gifts : ℕ → V) (others : (t : ℕ) → (t ≡ s → ⊥) → gifts t ≡ v.gift t)
     (plain' : Plain K V) (stage : Stage) (no-aside : aside_at stage ≡ None) (no-claim : claim_at stage ≡ None)
     (notes : (t : ℕ) → (t ≡ s → ⊥) → plain'.notes t ≡ plain.notes t) (entries : plain'.entries ≡ plain.entries) where
@@ -131,7 +131,7 @@ module _ {K V : Type 0} {order rank : K → K → Order} {bucket : K → ℕ} {p
   stop_kept (Some x) None a c own = stop_at (Some x) None a c own
   stop_kept (Some x) (Some p) a c own = stop_at (Some x) (Some p) a c own
 
-module _ {K V : Type 0} {order rank : K → K → Order} {bucket : K → ℕ} {plain : Plain K V} {n : ℕ} {v : Whole K V} (s : ℕ) (j : Job) where
+module _ {K V : Type 0} {order rank : K → K → Ordering} {bucket : K → ℕ} {plain : Plain K V} {n : ℕ} {v : Whole K V} (s : ℕ) (j : Job) where
   -- a session with no claim ends, with an answer or none; what it has set aside goes out
   ends_with :
       (aside : Option ℕ) (a : Option V) → Kept order rank bucket plain n v → aside_at (v.stage s) ≡ aside → claim_at (v.stage s) ≡ None →

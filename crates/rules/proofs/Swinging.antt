@@ -3,10 +3,10 @@
 use Rattle.std.proofs.Common.{◌≡◌, ℕ, suc, Bool, true, false, Some, None, Option, sym, refl, ap, ◌∙◌, subst, inl, inr, arith}
 use Rattle.std.proofs.lemmas.Bool.{cases_eq}
 use Rattle.std.proofs.lemmas.Bool.Decides.{nat_tests}
+use Rattle.std.specs.declared.cmp.Ordering.{Ordering}
+use Rattle.std.specs.declared.cmp.Ordering.TheVariants.{Equal}
 use Rattle.calls.specs.declared.operation.Operation.{Operation}
 use Rattle.calls.specs.declared.operation.Operation.TheVariants as operation
-use Rattle.keys.specs.declared.order.Order.{Order}
-use Rattle.keys.specs.declared.order.Order.TheVariants.{Alike}
 use Rattle.keys.proofs.Preorders.{total_preorder}
 use Rattle.rings.specs.Moves.{Replaced}
 use Rattle.rings.specs.RingLists.{count_below}
@@ -72,14 +72,14 @@ swung s o p u state next head v = record {
   gift = changed s u v.gift;
 }
 
-module _ {K V : Type 0} {order rank : K → K → Order} {bucket : K → ℕ} (kind : Kind order rank bucket) {plain : Plain K V} {n : ℕ} (v : Whole K V)
+module _ {K V : Type 0} {order rank : K → K → Ordering} {bucket : K → ℕ} (kind : Kind order rank bucket) {plain : Plain K V} {n : ℕ} (v : Whole K V)
     (s c p : ℕ) (work : Work) (k : Kept order rank bucket plain n v) (at : v.stage s ≡ UnderWay work) (claim : claim_at (UnderWay work) ≡ Some p)
     (may : MaySwing order rank bucket n v s c p) where
   -- p is in ring, and the only one there with the sought key
   claimed_in : v.state p ≡ InRing
   claimed_in = k.claim_state s p (ap claim_at at ∙ claim)
 
-  only_claimed : (q : ℕ) → v.state q ≡ InRing → order (v.key q) (v.want s) ≡ Alike → q ≡ p
+  only_claimed : (q : ℕ) → v.state q ≡ InRing → order (v.key q) (v.want s) ≡ Equal → q ≡ p
   only_claimed q i e =
       let o = total_preorder kind.ordered in
       let a = k.claim_key s p (ap claim_at at ∙ claim) in
@@ -151,7 +151,7 @@ module _ {K V : Type 0} {order rank : K → K → Order} {bucket : K → ℕ} (k
           claim_next = λ t q far h. rest q (other_claim t q far h).1;
         }
 
-module _ {K V : Type 0} {order rank : K → K → Order} {bucket : K → ℕ} (kind : Kind order rank bucket) {plain : Plain K V} {n : ℕ} (v : Whole K V)
+module _ {K V : Type 0} {order rank : K → K → Ordering} {bucket : K → ℕ} (kind : Kind order rank bucket) {plain : Plain K V} {n : ℕ} (v : Whole K V)
     (s x c p : ℕ) (k : Kept order rank bucket plain n v) (at : v.stage s ≡ UnderWay (Replacing x (c, p))) (may : MaySwing order rank bucket n v s c p)
     (h : HeadMove) (follows : h ≡ followed p (Some x) (v.head (bucket (v.want s)))) (u : V) (value : u ≡ v.value p) where
   -- the states after a replace: p is out, and x in ring
@@ -252,7 +252,7 @@ module _ {K V : Type 0} {order rank : K → K → Order} {bucket : K → ℕ} (k
       replaced_rings (ap is_in_ring may.stands) may.leads (ap is_in_ring set_aside) (kind.rank_same (v.key x) (v.key p) same))
       replaced_agrees
 
-module _ {K V : Type 0} {order rank : K → K → Order} {bucket : K → ℕ} (kind : Kind order rank bucket) {plain : Plain K V} {n : ℕ} (v : Whole K V)
+module _ {K V : Type 0} {order rank : K → K → Ordering} {bucket : K → ℕ} (kind : Kind order rank bucket) {plain : Plain K V} {n : ℕ} (v : Whole K V)
     (s c p ahead : ℕ) (k : Kept order rank bucket plain n v) (at : v.stage s ≡ UnderWay (Removing (c, p))) (may : MaySwing order rank bucket n v s c p)
     (leads : ahead ≡ v.next p) (h : HeadMove) (follows : h ≡ followed p (heir p ahead) (v.head (bucket (v.want s)))) (u : V) (value : u ≡ v.value p) where
   -- all of it after a remove: p is out
@@ -367,7 +367,7 @@ head_view_is : {K V : Type 0} (h : HeadMove) (b : ℕ) (w : Whole K V) → head_
 head_view_is Stays b w = refl
 head_view_is (Becomes o) b w = refl
 
-module _ {K V : Type 0} {order rank : K → K → Order} {bucket : K → ℕ} (kind : Kind order rank bucket) {plain : Plain K V} {n : ℕ} (v : Whole K V)
+module _ {K V : Type 0} {order rank : K → K → Ordering} {bucket : K → ℕ} (kind : Kind order rank bucket) {plain : Plain K V} {n : ℕ} (v : Whole K V)
     (s : ℕ) (work : Work) (k : Kept order rank bucket plain n v) (at : v.stage s ≡ UnderWay work) (fifth : Bool) where
   -- what holds is kept when a replace swings its item in
   pub swing_in_kept :

@@ -1,6 +1,6 @@
 -- A move with grounds writes only in the table, and so does abandon.
 use Rattle.std.proofs.Common.{◌≡◌, ℕ, ◌<◌, Bool, true, false, cond, eqb, Some, None, Option, sym, refl, ap, ◌∙◌, subst, arith}
-use Rattle.keys.specs.declared.order.Order.{Order}
+use Rattle.std.specs.declared.cmp.Ordering.{Ordering}
 use Rattle.tables.specs.declared.item.ItemState.TheVariants.{Out, SetAside, InRing}
 use Rattle.tables.specs.declared.moves.HeadMove.TheVariants.{Stays, Becomes}
 use Rattle.tables.specs.declared.moves.Move.{Move}
@@ -35,7 +35,7 @@ heir_within n p ahead h = go (eqb ahead p)
     go true = tt
     go false = h
 
-module _ {K V : Type 0} {order rank : K → K → Order} {bucket : K → ℕ} {plain : Plain K V} {n : ℕ} {w : Whole K V} (kept : Kept order rank bucket plain n w) where
+module _ {K V : Type 0} {order rank : K → K → Ordering} {bucket : K → ℕ} {plain : Plain K V} {n : ℕ} {w : Whole K V} (kept : Kept order rank bucket plain n w) where
   -- what is in ring lies in the table
   ring_within : (p : ℕ) → w.state p ≡ InRing → p < n
   ring_within p ringed = kept.within p (in_use ringed)

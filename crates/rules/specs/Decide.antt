@@ -6,11 +6,11 @@
 -- missing one is said to be outside the table only because the definitions are total.
 use Rattle.std.specs.Prelude.{ℕ, Bool, true, false, cond, not, ◌&&◌, ◌||◌, Some, None, Ok, Err, Option, Result, ◌==◌}
 use Rattle.std.specs.List.{slice_get}
+use Rattle.std.specs.declared.cmp.Ordering.{Ordering}
+use Rattle.std.specs.Ordering.{is_eq}
 use Rattle.calls.specs.declared.fault.IndexFault.{IndexFault}
 use Rattle.calls.specs.declared.fault.IndexFault.TheVariants.{OutsideTable}
-use Rattle.keys.specs.declared.order.Order.{Order}
 use Rattle.keys.specs.Hashes.{Hash}
-use Rattle.keys.specs.Orders.{is_alike}
 use Rattle.keys.specs.Ranks.{by_rank, bucket_of}
 use Rattle.rings.specs.Between.{between}
 use Rattle.tables.specs.declared.item.Item.{Item}
@@ -87,13 +87,13 @@ module _ {K V : Type 0} where
   swing_out pair ahead claimed (Ok head) = Ok (SwingOut pair ahead (followed pair.1 (heir pair.1 ahead) head) claimed.value)
 
 -- q is the sought key
-module _ {K V : Type 0} (order : K → K → Order) (digest : K → Hash) (st : State K V) (q : K) where
+module _ {K V : Type 0} (order : K → K → Ordering) (digest : K → Hash) (st : State K V) (q : K) where
   -- the order by rank in this index
-  abbrev pub rank : K → K → Order
+  abbrev pub rank : K → K → Ordering
   rank = by_rank order digest st.core.bits
 
   abbrev pub has_rank : K → Bool
-  has_rank k = is_alike (rank k q)
+  has_rank k = is_eq (rank k q)
 
   -- the head of the sought key's bucket
   abbrev pub head_here : Result (Option ℕ) IndexFault

@@ -2,6 +2,8 @@
 -- task that it has begun, or the answer of one that has ended. It is fed the calls with their
 -- arguments, whether each was refused, and whether a turn said ended, and nothing else.
 use Rattle.std.specs.Prelude.{◌≡◌, ℕ, cond, List, [], ◌∷◌, Some, None, Ok, Err, Option, Result, ◌==◌}
+use Rattle.std.specs.declared.cmp.Ordering.{Ordering}
+use Rattle.std.specs.Ordering.{is_eq}
 use Rattle.calls.specs.declared.call.Action.{Action}
 use Rattle.calls.specs.declared.call.Action.TheVariants.{Begin, Turn, Collect, Abandon}
 use Rattle.calls.specs.declared.call.Call.{Call}
@@ -12,8 +14,6 @@ use Rattle.calls.specs.declared.reply.Progress.TheVariants.{Moved, Again, Held, 
 use Rattle.calls.specs.declared.reply.Reply.{Reply}
 use Rattle.calls.specs.declared.reply.Reply.TheVariants.{Begun, Turned, Collected, Abandoned}
 use Rattle.calls.specs.Operations.{leaves}
-use Rattle.keys.specs.declared.order.Order.{Order}
-use Rattle.keys.specs.Orders.{is_alike}
 
 -- what is noted for a session
 pub data Note (K V : Type 0) : Type 0 where
@@ -57,20 +57,20 @@ abbrev pub noting : {K V : Type 0} → ℕ → Note K V → Plain K V → Plain 
 noting s note p = record { entries = p.entries; notes = λ t. cond (t == s) note (p.notes t) }
 
 -- alike keys count as one key
-module _ {K V : Type 0} (order : K → K → Order) where
+module _ {K V : Type 0} (order : K → K → Ordering) where
   -- the value of a key, or absent
   abbrev pub found : K → List (K × V) → Option V
   found x [] = None
-  found x (e ∷ es) = cond (is_alike (order e.0 x)) (Some e.1) (found x es)
+  found x (e ∷ es) = cond (is_eq (order e.0 x)) (Some e.1) (found x es)
 
   -- the entries with another value at a key
   abbrev pub stored : K → V → List (K × V) → List (K × V)
   stored x v [] = (x, v) ∷ []
-  stored x v (e ∷ es) = cond (is_alike (order e.0 x)) ((e.0, v) ∷ es) (e ∷ stored x v es)
+  stored x v (e ∷ es) = cond (is_eq (order e.0 x)) ((e.0, v) ∷ es) (e ∷ stored x v es)
 
   abbrev pub deleted : K → List (K × V) → List (K × V)
   deleted x [] = []
-  deleted x (e ∷ es) = cond (is_alike (order e.0 x)) es (e ∷ deleted x es)
+  deleted x (e ∷ es) = cond (is_eq (order e.0 x)) es (e ∷ deleted x es)
 
   -- the key has this value after it, or is absent
   abbrev pub put : K → Option V → List (K × V) → List (K × V)

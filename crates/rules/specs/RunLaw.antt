@@ -3,6 +3,8 @@
 -- the index; `Run`, `plain_after`, `collect` and `begin` are those of the rule book.
 use Rattle.std.specs.Prelude.{◌≡◌, ℕ, ◌+◌, ◌^◌, ◌<◌, ◌≤◌, true, List, [], ◌∷◌, length, Some, None, Ok, Err, Option, Result, ◌≢◌}
 use Rattle.std.specs.List.{slice_get}
+use Rattle.std.specs.declared.cmp.Ordering.{Ordering}
+use Rattle.std.specs.declared.cmp.Ordering.TheVariants.{Equal}
 use Rattle.calls.specs.declared.call.Action.{Action}
 use Rattle.calls.specs.declared.call.Action.TheVariants.{Begin, Turn, Collect, Abandon}
 use Rattle.calls.specs.declared.call.Call.{Call}
@@ -11,8 +13,6 @@ use Rattle.calls.specs.declared.fault.IndexFault.{IndexFault}
 use Rattle.calls.specs.declared.fault.IndexFault.TheVariants.{NoPlace}
 use Rattle.calls.specs.declared.reply.Reply.{Reply}
 use Rattle.calls.specs.declared.reply.Reply.TheVariants.{Collected}
-use Rattle.keys.specs.declared.order.Order.{Order}
-use Rattle.keys.specs.declared.order.Order.TheVariants.{Alike}
 use Rattle.keys.specs.Hashes.{Hash}
 use Rattle.keys.specs.Ranks.{bucket_of, by_rank}
 use Rattle.rings.specs.Between.{below, at_most}
@@ -36,7 +36,7 @@ abbrev pub Leads : {K V : Type 0} → List (Item K V) → ℕ → List ℕ → �
 Leads items from [] to = from ≡ to
 Leads {K} {V} items from (p ∷ ps) to = (from ≡ p) × ((it : Item K V) → slice_get items p ≡ Some it → Leads items it.next ps to)
 
-module _ {K V : Type 0} (order : K → K → Order) (digest : K → Hash) where
+module _ {K V : Type 0} (order : K → K → Ordering) (digest : K → Hash) where
   -- (a) what an accepted collect answered is what the plain table had noted
   abbrev pub Collects : Plain K V → Action K V → ℕ → Result (Reply V) IndexFault → Type 0
   Collects p (Begin t) s r = Unit {0}
@@ -68,7 +68,7 @@ module _ {K V : Type 0} (order : K → K → Order) (digest : K → Hash) where
 
   -- the item at a place has a key alike to x
   abbrev pub KeyAt : State K V → ℕ → K → Type 0
-  KeyAt st p x = (it : Item K V) → slice_get st.items p ≡ Some it → order it.key x ≡ Alike
+  KeyAt st p x = (it : Item K V) → slice_get st.items p ≡ Some it → order it.key x ≡ Equal
 
   -- from the item at a place to its next the ring rises, or falls back: the next is not higher by rank
   abbrev pub Rises : State K V → ℕ → Type 0
@@ -108,7 +108,7 @@ module _ {K V : Type 0} (order : K → K → Order) (digest : K → Hash) where
     pub full_now : (s : ℕ) (t : Task K V) → (begin st s t).0 ≡ Err NoPlace → st.core.places ≤ length (plain_after order es).entries + 30
 
 -- the run law: every run is sound
-abbrev pub RunLaw : {K : Type 0} (V : Type 0) → (K → K → Order) → (K → Hash) → Type 0
+abbrev pub RunLaw : {K : Type 0} (V : Type 0) → (K → K → Ordering) → (K → Hash) → Type 0
 RunLaw {K} V order digest = (es : List (Event K V)) (st : State K V) → Run order digest es st → Sound order digest es st
 
 -- a call by a session, and what it was answered
@@ -117,13 +117,13 @@ event s a r = record { call = record { session = s; action = a }; reply = r }
 
 -- the law at one call: whatever run led to the state before it, with this event it leads to the state
 -- after it, and is sound
-abbrev pub GoesOn : {K V : Type 0} → (K → K → Order) → (K → Hash) → State K V → Event K V → State K V → Type 0
+abbrev pub GoesOn : {K V : Type 0} → (K → K → Ordering) → (K → Hash) → State K V → Event K V → State K V → Type 0
 GoesOn {K} {V} order digest st e after = (es : List (Event K V)) → Run order digest es st → Run order digest (e ∷ es) after × Sound order digest (e ∷ es) after
 
 -- the law at an accepted making: it is a run of no events, and is sound
-abbrev pub Starts : {K V : Type 0} → (K → K → Order) → (K → Hash) → State K V → Type 0
+abbrev pub Starts : {K V : Type 0} → (K → K → Ordering) → (K → Hash) → State K V → Type 0
 Starts order digest st = Run order digest [] st × Sound order digest [] st
 
 -- the law at a list of calls, from an accepted making on: it is a run, and is sound
-abbrev pub Replays : {K V : Type 0} → (K → K → Order) → (K → Hash) → State K V → List (Call K V) → State K V → Type 0
+abbrev pub Replays : {K V : Type 0} → (K → K → Ordering) → (K → Hash) → State K V → List (Call K V) → State K V → Type 0
 Replays order digest st cs after = Run order digest (recorded order digest st cs []) after × Sound order digest (recorded order digest st cs []) after

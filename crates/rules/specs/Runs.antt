@@ -1,10 +1,10 @@
 -- Runs: an index made new, and changed only by begin, turn, collect and abandon, in any order and with
 -- any arguments.
 use Rattle.std.specs.Prelude.{◌≡◌, ℕ, List, [], ◌∷◌, Ok, Result}
+use Rattle.std.specs.declared.cmp.Ordering.{Ordering}
 use Rattle.calls.specs.declared.call.Call.{Call}
 use Rattle.calls.specs.declared.fault.IndexFault.{IndexFault}
 use Rattle.calls.specs.declared.reply.Reply.{Reply}
-use Rattle.keys.specs.declared.order.Order.{Order}
 use Rattle.keys.specs.Hashes.{Hash}
 use Rattle.rules.specs.States.{State}
 use Rattle.rules.specs.Making.{make}
@@ -17,11 +17,11 @@ pub record Event (K V : Type 0) : Type 0 where
   pub reply : Result (Reply V) IndexFault
 
 -- the plain table after these events, the newest first
-abbrev pub plain_after : {K V : Type 0} → (K → K → Order) → List (Event K V) → Plain K V
+abbrev pub plain_after : {K V : Type 0} → (K → K → Ordering) → List (Event K V) → Plain K V
 plain_after order [] = fresh
 plain_after order (e ∷ es) = feed order e.call (heard e.reply) (plain_after order es)
 
-module _ {K V : Type 0} (order : K → K → Order) (digest : K → Hash) where
+module _ {K V : Type 0} (order : K → K → Ordering) (digest : K → Hash) where
   -- these events, the newest first, led from a making in tables with any contents to this state
   pub data Run : List (Event K V) → State K V → Type 0 where
     new : {st : State K V} (old : State K V) (k : ℕ) → make k old ≡ (Ok tt, st) → Run [] st

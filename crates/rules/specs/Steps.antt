@@ -1,12 +1,12 @@
 -- Any call on an index, as one step.
 use Rattle.std.specs.Prelude.{ℕ, List, [], ◌∷◌, Ok, Err, Result}
+use Rattle.std.specs.declared.cmp.Ordering.{Ordering}
 use Rattle.calls.specs.declared.call.Action.{Action}
 use Rattle.calls.specs.declared.call.Action.TheVariants.{Begin, Turn, Collect, Abandon}
 use Rattle.calls.specs.declared.call.Call.{Call}
 use Rattle.calls.specs.declared.fault.IndexFault.{IndexFault}
 use Rattle.calls.specs.declared.reply.Reply.{Reply}
 use Rattle.calls.specs.declared.reply.Reply.TheVariants.{Begun, Turned, Collected, Abandoned}
-use Rattle.keys.specs.declared.order.Order.{Order}
 use Rattle.keys.specs.Hashes.{Hash}
 use Rattle.rules.specs.States.{State, Outcome}
 use Rattle.rules.specs.Begin.{begin}
@@ -22,7 +22,7 @@ replied reply (Err e) = Err e
 abbrev pub as_reply : {A K V : Type 0} → (A → Reply V) → Outcome A K V → Outcome (Reply V) K V
 as_reply reply done = (replied reply done.0, done.1)
 
-module _ {K V : Type 0} (order : K → K → Order) (digest : K → Hash) where
+module _ {K V : Type 0} (order : K → K → Ordering) (digest : K → Hash) where
   abbrev pub step_by : State K V → ℕ → Action K V → Outcome (Reply V) K V
   step_by st s (Begin task) = as_reply (λ _. Begun) (begin st s task)
   step_by st s Turn = as_reply Turned (turn order digest st s)

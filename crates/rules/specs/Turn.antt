@@ -1,10 +1,10 @@
 -- One turn: decide, then act.
 use Rattle.std.specs.Prelude.{ℕ, Some, None, Ok, Err, Option, Result}
 use Rattle.std.specs.List.{slice_get}
+use Rattle.std.specs.declared.cmp.Ordering.{Ordering}
 use Rattle.calls.specs.declared.fault.IndexFault.{IndexFault}
 use Rattle.calls.specs.declared.fault.IndexFault.TheVariants as fault
 use Rattle.calls.specs.declared.reply.Progress.{Progress}
-use Rattle.keys.specs.declared.order.Order.{Order}
 use Rattle.keys.specs.Hashes.{Hash}
 use Rattle.keys.specs.Ranks.{bucket_of}
 use Rattle.tables.specs.declared.moves.Move.{Move}
@@ -18,7 +18,7 @@ use Rattle.rules.specs.States.{State, Outcome, seat}
 use Rattle.rules.specs.Decide.{decide}
 use Rattle.rules.specs.Act.{act}
 
-module _ {K V : Type 0} (order : K → K → Order) (digest : K → Hash) (st : State K V) (s : ℕ) where
+module _ {K V : Type 0} (order : K → K → Ordering) (digest : K → Hash) (st : State K V) (s : ℕ) where
   abbrev pub turn_move : Work → ℕ → Request K V → Result (Move V) IndexFault → Outcome Progress K V
   turn_move w finds r (Err e) = (Err e, st)
   turn_move w finds r (Ok m) =

@@ -2,15 +2,11 @@ ghost use Rattle.rules.specs.Examples.{WorkedDay};
 ghost use Rattle.rules.specs.FurtherExamples.{FurtherDays};
 
 // The worked examples follow from the definitions.
-pub fn worked_day_holds() -> u8
+pub fn worked_day_holds()
     ensures { WorkedDay }
-{
-    0
-}
+{}
 
 // And so do those of heads, the hand, a swing that gives up, and misses.
-pub fn further_days_hold() -> u8
+pub fn further_days_hold()
     ensures { FurtherDays }
-{
-    0
-}
+{}

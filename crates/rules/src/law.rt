@@ -4,15 +4,11 @@ ghost use Rattle.rules.specs.RunLaw.{RunLaw};
 use keys::key::Key;
 
 // The run law, for every lawful kind of keys and every kind of values.
-pub fn run_law_holds<K: Key, V: Copy>() -> u8
+pub fn run_law_holds<K: Key, V: Copy>()
     ensures { RunLaw V K.Key.order K.Key.digest }
-{
-    0
-}
+{}
 
 // There are runs: the worked day is one.
-pub fn worked_day_runs() -> u8
+pub fn worked_day_runs()
     ensures { WorkedRun }
-{
-    0
-}
+{}

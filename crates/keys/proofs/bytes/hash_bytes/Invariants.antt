@@ -1,6 +1,6 @@
-use Rattle.std.proofs.Common.{◌≡◌, ◌<◌, take}
+use Rattle.std.proofs.Common.{◌≡◌, take}
 use Rattle.keys.specs.Bytes.{bytes_hash}
 use Rattle.keys.proofs.bytes.hash_bytes.Given as goal
 
 abbrev pub invariant-loop-b : goal.invariant-loop-b
-invariant-loop-b l = (l.h < 65536) × (l.h ≡ (bytes_hash (take l.b-index l.bytes)).value)
+invariant-loop-b l = l.h ≡ (bytes_hash (take l.b-index l.bytes)).value

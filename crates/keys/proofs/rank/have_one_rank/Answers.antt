@@ -1,11 +1,9 @@
-use Rattle.std.proofs.Common.{rules}
-use Rattle.keys.proofs.RankOrder.{rank_laws}
+use Rattle.keys.proofs.RankOrder.{lawful_kind, one_rank, rank_laws}
 use Rattle.keys.proofs.rank.have_one_rank.Goals as goal
 
 pub returns : goal.returns
 returns g c =
     let met = g.met.K.Key in
-    record {
-      value = search rules;
-      laws = rank_laws (record { ordered = record { turned = met.turned; chained = met.chained }; alike_hash = met.hashed }) c.args.k;
-    }
+    let kind = lawful_kind met.turned met.chained met.hashed in
+    let same = one_rank kind c.args.k c.args.a c.args.b in
+    record { value = cc; laws = rank_laws kind c.args.k }
