@@ -2,10 +2,10 @@
 use Rattle.std.proofs.Common.{◌≡◌, ℕ, List, length, drop, Ok, vec_items, vec_len, Result, Vec, sym, ap, ◌∙◌, subst, arith}
 use Rattle.std.proofs.lemmas.List.{take-append-le, take_all}
 use Rattle.std.specs.Vec.{with_items}
+use Rattle.std.specs.declared.cmp.Ordering.{Ordering}
 use Rattle.calls.specs.declared.call.Call.{Call}
 use Rattle.calls.specs.declared.fault.IndexFault.{IndexFault}
 use Rattle.calls.specs.declared.reply.Reply.{Reply}
-use Rattle.keys.specs.declared.order.Order.{Order}
 use Rattle.keys.specs.Hashes.{Hash}
 use Rattle.rules.specs.Making.{make}
 use Rattle.rules.specs.RunLaw.{GoesOn, Starts}
@@ -25,7 +25,7 @@ pub same_state : {K V : Type 0} {c d : Core} {hs gs : List ℕ} {is js : List (I
 same_state e f g h = cc
 
 -- a call between states, as a call between the same states
-module _ {K V : Type 0} (order : K → K → Order) (digest : K → Hash) (call : Call K V) (r : Result (Reply V) IndexFault) {st lent left after : State K V} (before : lent ≡ st) (behind : after ≡ left) where
+module _ {K V : Type 0} (order : K → K → Ordering) (digest : K → Hash) (call : Call K V) (r : Result (Reply V) IndexFault) {st lent left after : State K V} (before : lent ≡ st) (behind : after ≡ left) where
   pub step_between : (r, left) ≡ step order digest lent call → (r, after) ≡ step order digest st call
   step_between e = ap (λ s. (r, s)) behind ∙ e ∙ ap (λ s. step order digest s call) before
 
@@ -42,5 +42,5 @@ module _ {K V : Type 0} (key : K) (value : V) (r : Result (Unit {0}) IndexFault)
   pub new_state_made : after ≡ new_state key value
   new_state_made = behind ∙ ap (λ d. d.1) made_new
 
-  pub new_starts : (order : K → K → Order) (digest : K → Hash) → (r ≡ Ok tt → Starts order digest left) → Starts order digest after
+  pub new_starts : (order : K → K → Ordering) (digest : K → Hash) → (r ≡ Ok tt → Starts order digest left) → Starts order digest after
   new_starts order digest starts = subst (λ (s : State K V). Starts order digest s) (sym behind) (starts (ap (λ d. d.0) made_new))

@@ -1,14 +1,14 @@
 -- A sound state, made new and after a call more.
 use Rattle.std.proofs.Common.{[], ◌∷◌}
+use Rattle.std.specs.declared.cmp.Ordering.{Ordering}
 use mathlib.Core.Logic.{∥∥₁_map}
-use Rattle.keys.specs.declared.order.Order.{Order}
 use Rattle.keys.specs.Hashes.{Hash}
 use Rattle.rules.specs.RunLaw.{GoesOn, Starts}
 use Rattle.rules.specs.Runs.{Event}
 use Rattle.rules.specs.States.{State}
 use Rattle.board_server.specs.Soundness.{IsSound}
 
-module _ {K V : Type 0} (order : K → K → Order) (digest : K → Hash) where
+module _ {K V : Type 0} (order : K → K → Ordering) (digest : K → Hash) where
   pub sound_new : (st : State K V) → Starts order digest st → IsSound order digest st
   sound_new st starts = ∣ ([], starts.0, starts.1) ∣₁
 

@@ -1,16 +1,16 @@
 -- A list of calls, one call more.
 use Rattle.std.proofs.Common.{◌≡◌, ℕ, suc, ◌+◌, ◌<◌, List, [], ◌∷◌, ◌++◌, length, get_or, take, drop, set, Ok, Err, Result, sym, refl, ap, ◌∙◌, subst, arith}
 use Rattle.std.proofs.lemmas.List.{take_more, drop_more, set_at, append_assoc, length-take-le}
+use Rattle.std.specs.declared.cmp.Ordering.{Ordering}
 use Rattle.calls.specs.declared.call.Call.{Call}
 use Rattle.calls.specs.declared.fault.IndexFault.{IndexFault}
 use Rattle.calls.specs.declared.reply.Reply.{Reply}
-use Rattle.keys.specs.declared.order.Order.{Order}
 use Rattle.keys.specs.Hashes.{Hash}
 use Rattle.rules.specs.States.{State, Outcome}
 use Rattle.rules.specs.Steps.{step, played}
 use Rattle.index.specs.Replays.{Done, Replayed}
 
-module _ {K V : Type 0} (order : K → K → Order) (digest : K → Hash) where
+module _ {K V : Type 0} (order : K → K → Ordering) (digest : K → Hash) where
   -- the replies and the state after one call more at the end
   played_push : (st : State K V) (cs : List (Call K V)) (c : Call K V) →
       ((played order digest st (cs ++ c ∷ [])).0 ≡ (played order digest st cs).0 ++ (step order digest (played order digest st cs).1 c).0 ∷ [])

@@ -5,7 +5,6 @@ use Rattle.std.proofs.lemmas.Bool.Decides.{nat_tests}
 use Rattle.calls.specs.declared.fault.IndexFault.{IndexFault}
 use Rattle.calls.specs.declared.operation.Operation.{Operation}
 use Rattle.calls.specs.declared.operation.Operation.TheVariants as operation
-use Rattle.keys.specs.declared.order.Order.{Order}
 use Rattle.keys.specs.Hashes.{Hash}
 use Rattle.keys.specs.Ranks.{bucket_of}
 use Rattle.tables.specs.declared.item.Item.{Item}
@@ -25,6 +24,7 @@ use Rattle.tables.specs.Reads.{read_next, head_place}
 use Rattle.tables.specs.Records.{in_session}
 use Rattle.tables.specs.Sessions.{aside_of, job_of, ended_as, finds_after}
 use Rattle.std.specs.Option.{ok_or}
+use Rattle.std.specs.declared.cmp.Ordering.{Ordering}
 use Rattle.calls.specs.declared.fault.IndexFault.TheVariants.{NotAsMade, NoSession}
 use Rattle.rules.specs.States.{State, is_as_made, seat}
 use Rattle.rings.specs.Between.{between}
@@ -91,7 +91,7 @@ claim_within : (V : Type 0) (n x : ℕ) (pair : ℕ × ℕ) (r : Result ℕ Inde
 claim_within V n x pair (Err e) h k l = refl
 claim_within V n x pair (Ok a) h k l = grind (arith, nat_tests)
 
-module _ {K V : Type 0} (order : K → K → Order) (digest : K → Hash) (st : State K V) (q : K) where
+module _ {K V : Type 0} (order : K → K → Ordering) (digest : K → Hash) (st : State K V) (q : K) where
   hit_within : (j : Job) (pair : ℕ × ℕ) (nx : Item K V) → is_below st.core.places (aside_of j) ≡ true → pair.0 < st.core.places → pair.1 < st.core.places →
       is_decision_within st.core.places (hit_ahead order digest st q j pair nx) ≡ true
   hit_within job.Find pair nx h k l = refl
@@ -235,7 +235,7 @@ move_within : {V : Type 0} (n : ℕ) (r : Result (Move V) IndexFault) (m : Move 
 move_within n r m e h = subst (λ x. is_decision_within n x ≡ true) e h
 
 -- a turn keeps the record's places in its tables
-pub turn_within : {K V : Type 0} (order : K → K → Order) (digest : K → Hash) (st : State K V) (s bucket : ℕ) (session : Session) (w : Work) (r : Request K V) (m : Move V) →
+pub turn_within : {K V : Type 0} (order : K → K → Ordering) (digest : K → Hash) (st : State K V) (s bucket : ℕ) (session : Session) (w : Work) (r : Request K V) (m : Move V) →
     is_within st.core ≡ true → seat st s ≡ Ok session → session.stage ≡ UnderWay w → decide order digest st r.key w ≡ Ok m →
     is_within (act st s (job_of w) session.finds r bucket m).1.core ≡ true
 turn_within order digest st s bucket session w r m h e1 e2 e3 =

@@ -1,8 +1,8 @@
 -- A turn, from its parts.
 use Rattle.std.proofs.Common.{◌≡◌, ℕ, Some, Ok, sym, ap, ◌∙◌}
 use Rattle.std.specs.List.{slice_get}
+use Rattle.std.specs.declared.cmp.Ordering.{Ordering}
 use Rattle.calls.specs.declared.reply.Progress.{Progress}
-use Rattle.keys.specs.declared.order.Order.{Order}
 use Rattle.keys.specs.Hashes.{Hash}
 use Rattle.keys.specs.Ranks.{bucket_of}
 use Rattle.tables.specs.declared.moves.Move.{Move}
@@ -16,7 +16,7 @@ use Rattle.rules.specs.Decide.{decide}
 use Rattle.rules.specs.Act.{act}
 use Rattle.rules.specs.Turn.{turn, turn_seat, turn_stage, turn_request, turn_move}
 
-module _ {K V : Type 0} (order : K → K → Order) (digest : K → Hash) (st : State K V) (s : ℕ) where
+module _ {K V : Type 0} (order : K → K → Ordering) (digest : K → Hash) (st : State K V) (s : ℕ) where
   -- the session is under way, its request is r, and it has decided on m
   pub turn_is : (session : Session) (w : Work) (r : Request K V) (m : Move V) (done : Progress × State K V) →
       seat st s ≡ Ok session → session.stage ≡ UnderWay w → slice_get st.requests s ≡ Some r → decide order digest st r.key w ≡ Ok m →

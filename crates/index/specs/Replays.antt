@@ -1,15 +1,15 @@
 -- What a replay does: a making, and then a list of calls.
 use Rattle.std.specs.Prelude.{◌≡◌, ℕ, min, List, ◌++◌, length, take, drop, Ok, Err, Result}
+use Rattle.std.specs.declared.cmp.Ordering.{Ordering}
 use Rattle.calls.specs.declared.call.Call.{Call}
 use Rattle.calls.specs.declared.fault.IndexFault.{IndexFault}
 use Rattle.calls.specs.declared.reply.Reply.{Reply}
-use Rattle.keys.specs.declared.order.Order.{Order}
 use Rattle.keys.specs.Hashes.{Hash}
 use Rattle.rules.specs.RunLaw.{Replays}
 use Rattle.rules.specs.States.{State, Outcome}
 use Rattle.rules.specs.Steps.{played}
 
-module _ {K V : Type 0} (order : K → K → Order) (digest : K → Hash) where
+module _ {K V : Type 0} (order : K → K → Ordering) (digest : K → Hash) where
   -- from the outcome of the making: the replies are those of the first n calls, one by one; the rest of the
   -- table of replies is as it was; and the whole run is sound
   pub record Done (st : State K V) (calls : List (Call K V)) (old : List (Result (Reply V) IndexFault)) (n : ℕ) (replies : List (Result (Reply V) IndexFault)) (after : State K V) : Type 0 where

@@ -2,8 +2,8 @@ use keys::berth::Berth;
 use keys::bucket::{bucket_of, tag_of};
 use keys::key::Key;
 use keys::name::Name;
-use keys::order::Order;
 use keys::rank::compare_ranks;
+use std::cmp::Ordering;
 use std::test::Fail;
 
 // Harbour, berth and the hash of the two.
@@ -75,23 +75,23 @@ fn names_made(rt: HostRuntime) {
 
 // Two names, and how the first stands to the second.
 #[derive(Clone, Copy)]
-struct NameOrder(&'static [u8], &'static [u8], Order);
+struct NameOrder(&'static [u8], &'static [u8], Ordering);
 
 #[test]
 fn name_orders(rt: HostRuntime) -> Result<(), Fail> {
     let cases = [
-        NameOrder(b"A", b"AB", Order::Before),
-        NameOrder(b"AB", b"B", Order::Before),
-        NameOrder(b"AB", b"A", Order::After),
-        NameOrder(b"B", b"AB", Order::After),
-        NameOrder(b"AB", b"AB", Order::Alike),
-        NameOrder(b"AB", b"Ab", Order::Before),
-        NameOrder(b"A", b"A\0", Order::Before),
-        NameOrder(b"\xff", b"A", Order::After),
+        NameOrder(b"A", b"AB", Ordering::Less),
+        NameOrder(b"AB", b"B", Ordering::Less),
+        NameOrder(b"AB", b"A", Ordering::Greater),
+        NameOrder(b"B", b"AB", Ordering::Greater),
+        NameOrder(b"AB", b"AB", Ordering::Equal),
+        NameOrder(b"AB", b"Ab", Ordering::Less),
+        NameOrder(b"A", b"A\0", Ordering::Less),
+        NameOrder(b"\xff", b"A", Ordering::Greater),
     ];
     for NameOrder(a, b, order) in cases {
         match (Name::new(a), Name::new(b)) {
-            (Ok(a), Ok(b)) => assert_eq!(rt; a.compare(b) as u8, order as u8),
+            (Ok(a), Ok(b)) => assert_eq!(rt; a.compare(b), order),
             _ => return Err(Fail::new("no name")),
         }
     }
@@ -100,16 +100,16 @@ fn name_orders(rt: HostRuntime) -> Result<(), Fail> {
 
 // Two berths, each a harbour and a berth, and how the first stands to the second.
 #[derive(Clone, Copy)]
-struct BerthOrder(u16, u16, u16, u16, Order);
+struct BerthOrder(u16, u16, u16, u16, Ordering);
 
 #[test]
 fn berth_orders(rt: HostRuntime) {
     let cases = [
-        BerthOrder(0, 9, 1, 2, Order::Before),
-        BerthOrder(1, 2, 0, 9, Order::After),
-        BerthOrder(1, 2, 1, 9, Order::Before),
-        BerthOrder(1, 9, 1, 2, Order::After),
-        BerthOrder(1, 2, 1, 2, Order::Alike),
+        BerthOrder(0, 9, 1, 2, Ordering::Less),
+        BerthOrder(1, 2, 0, 9, Ordering::Greater),
+        BerthOrder(1, 2, 1, 9, Ordering::Less),
+        BerthOrder(1, 9, 1, 2, Ordering::Greater),
+        BerthOrder(1, 2, 1, 2, Ordering::Equal),
     ];
     for BerthOrder(harbour, berth, other_harbour, other_berth, order) in cases {
         let a = Berth { harbour, berth };
@@ -117,7 +117,7 @@ fn berth_orders(rt: HostRuntime) {
             harbour: other_harbour,
             berth: other_berth,
         };
-        assert_eq!(rt; a.compare(b) as u8, order as u8);
+        assert_eq!(rt; a.compare(b), order);
     }
 }
 
@@ -146,22 +146,22 @@ fn buckets_and_tags(rt: HostRuntime) {
 
 // Head bits and two berths of harbour 0, and how the first stands to the second by rank.
 #[derive(Clone, Copy)]
-struct RankOrder(u8, u16, u16, Order);
+struct RankOrder(u8, u16, u16, Ordering);
 
 #[test]
 fn rank_orders(rt: HostRuntime) {
     let cases = [
         // at k = 0 the tags are 15470, 30940, 40503 and 55973
-        RankOrder(0, 2, 4, Order::Before),
-        RankOrder(0, 4, 1, Order::Before),
-        RankOrder(0, 1, 3, Order::Before),
-        RankOrder(0, 3, 2, Order::After),
-        RankOrder(0, 3, 3, Order::Alike),
+        RankOrder(0, 2, 4, Ordering::Less),
+        RankOrder(0, 4, 1, Ordering::Less),
+        RankOrder(0, 1, 3, Ordering::Less),
+        RankOrder(0, 3, 2, Ordering::Greater),
+        RankOrder(0, 3, 3, Ordering::Equal),
         // at k = 8 those of berths 1 and 2 are 55 and 110
-        RankOrder(8, 1, 2, Order::Before),
-        RankOrder(8, 2, 1, Order::After),
+        RankOrder(8, 1, 2, Ordering::Less),
+        RankOrder(8, 2, 1, Ordering::Greater),
         // of berths with one tag the lower comes first
-        RankOrder(8, 0, 256, Order::Before),
+        RankOrder(8, 0, 256, Ordering::Less),
     ];
     for RankOrder(k, berth, other, order) in cases {
         let a = Berth { harbour: 0, berth };
@@ -169,6 +169,6 @@ fn rank_orders(rt: HostRuntime) {
             harbour: 0,
             berth: other,
         };
-        assert_eq!(rt; compare_ranks(k, a, b) as u8, order as u8);
+        assert_eq!(rt; compare_ranks(k, a, b), order);
     }
 }
