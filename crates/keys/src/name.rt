@@ -10,7 +10,7 @@ use std::cmp::Ordering;
 #[derive(Clone, Copy)]
 pub struct Name {
     bytes: [u8; 12],
-    count: u8,
+    count: usize,
 }
 
 // Why bytes make no name: there are none, or more than twelve.
@@ -47,7 +47,7 @@ impl Name {
         kept[..count].copy_from_slice(bytes);
         Ok(Name {
             bytes: kept,
-            count: count as u8,
+            count,
         })
     }
 
@@ -56,7 +56,7 @@ impl Name {
         ensures { result.now ≡ used self.now }
     {
         // never more than twelve; `min` says so where the type does not
-        let count = (self.count as usize).min(12);
+        let count = self.count.min(12);
         &self.bytes[..count]
     }
 }

@@ -9,6 +9,7 @@ pub fn run_law_holds<K: Key, V: Copy>()
 {}
 
 // There are runs: the worked day is one.
+#[tactic(auto, using(crate::proofs::InhabitedRun::worked_day_runs))]
 pub fn worked_day_runs()
     ensures { WorkedRun }
 {}

@@ -1,7 +1,0 @@
-use Rattle.std.proofs.Common.{refl}
-use Rattle.rings.specs.Between.{between}
-use Rattle.rules.proofs.examples.further_days_hold.Goals as goal
-
-pub returns : goal.returns
-unfolding between
-returns c = (refl, refl, refl, refl, refl, refl, refl, refl, refl, refl, refl, refl, refl, refl, refl, refl, refl)
