@@ -8,34 +8,16 @@ use Rattle.keys.specs.Orders.{Lawful, TotalPreorder}
 
 module _ {K : Type 0} {order : K → K → Ordering} (laws : Lawful order) where
   one_of_three : (a b : K) → (order a b ≡ Less) ⊎ ((order a b ≡ Equal) ⊎ (order b a ≡ Less))
-  one_of_three a b = let u = laws.turned b a in grind arith
+  one_of_three a b = grind (arith, laws.turned)
 
   before_chained : (a b c : K) → order a b ≡ Less → order b c ≡ Less → order a c ≡ Less
-  before_chained a b c h k =
-      let t = laws.turned a c in
-      let u = laws.turned c a in
-      let x = laws.turned a b in
-      let y = laws.turned b c in
-      let v = laws.chained a b c in
-      let w = laws.chained b c a in
-      grind arith
+  before_chained a b c h k = grind (arith, laws.turned, laws.chained)
 
   alike_left : (a b c : K) → order a b ≡ Equal → order a c ≡ order b c
-  alike_left a b c h =
-      let x = laws.turned a b in
-      let y = laws.turned b a in
-      let t = laws.turned a c in
-      let u = laws.turned c a in
-      let t' = laws.turned b c in
-      let u' = laws.turned c b in
-      let v = laws.chained a b c in
-      let w = laws.chained b a c in
-      let v' = laws.chained c b a in
-      let w' = laws.chained c a b in
-      grind arith
+  alike_left a b c h = grind (arith, laws.turned, laws.chained)
 
   reversed : (a b : K) → order a b ≡ ordering_reverse (order b a)
-  reversed a b = let t = laws.turned a b in let u = laws.turned b a in grind arith
+  reversed a b = grind (arith, laws.turned)
 
   pub total_order : IsTotalOrder order
   total_order = record { antisymm = reversed; trans = before_chained; congr = alike_left }

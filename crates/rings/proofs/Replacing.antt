@@ -11,7 +11,7 @@ use Rattle.rings.specs.Moves.{Replaced}
 use Rattle.rings.specs.Rings.{View, Sound}
 use Rattle.rings.proofs.Arcs.{alike_on_arc, alike_arc_start, alike_arc_end}
 use Rattle.rings.proofs.Nexts.{next_one_to_one}
-use Rattle.rings.proofs.Unlinking.{head_is}
+use Rattle.rings.proofs.Unlinking.{holds_cases}
 
 module _ {K : Type 0} {order : K → K → Ordering} (laws : Lawful order) (bucket : K → ℕ)
     (alike_bucket : (a b : K) → order a b ≡ Equal → bucket a ≡ bucket b) where
@@ -113,7 +113,7 @@ module _ {K : Type 0} {order : K → K → Ordering} (laws : Lawful order) (buck
       unlike = λ q r i j e.
           was_one_to_one q r i j (s.unlike (was q) (was r) (was_in_ring q i) (was_in_ring r j) (was_alike q r e));
       head_in_ring = λ b h e.
-          let d1 = head_is (v.head b) p in
+          let d1 = holds_cases (v.head b) p in
           let d2 = cases_eq h p in
           let h1 = t.headed b in
           let h2 = t.heads b in
@@ -121,7 +121,7 @@ module _ {K : Type 0} {order : K → K → Ordering} (laws : Lawful order) (buck
           let g = stays h in
           grind (arith, t.entered);
       head_in_bucket = λ b h e.
-          let d = head_is (v.head b) p in
+          let d = holds_cases (v.head b) p in
           let h1 = t.headed b in
           let h2 = t.heads b in
           let s1 = s.head_in_bucket b h in
@@ -131,7 +131,7 @@ module _ {K : Type 0} {order : K → K → Ordering} (laws : Lawful order) (buck
           grind arith;
       no_head = λ q i e.
           let b = bucket (w.key q) in
-          let d = head_is (v.head b) p in
+          let d = holds_cases (v.head b) p in
           let h1 = t.headed b in
           let h2 = t.heads b in
           let r = s.no_head (was q) (was_in_ring q i) in

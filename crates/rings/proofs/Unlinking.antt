@@ -9,10 +9,10 @@ use Rattle.rings.specs.Rings.{View, Sound}
 use Rattle.rings.proofs.Arcs.{arc_split}
 use Rattle.rings.proofs.Nexts.{next_one_to_one, not_own_next, alone_in_bucket}
 
--- a head is p or it is not, and moves with p if it is
-pub head_is : (o : Option ℕ) (p : ℕ) → (o ≡ Some p) ⊎ (o ≡ Some p → ⊥)
-head_is (Some h) p = elim (cases_eq h p) [ inl e ↦ inl (ap Some e) | inr n ↦ inr (λ e. n (cc)) ]
-head_is None p = inr (λ e. let z : ◌≡◌ {A = ℕ} 0 1 = cc in omega arith)
+-- an option holds a place or it does not: a head moves with p if it is p
+pub holds_cases : (o : Option ℕ) (p : ℕ) → (o ≡ Some p) ⊎ (o ≡ Some p → ⊥)
+holds_cases (Some h) p = elim (cases_eq h p) [ inl e ↦ inl (ap Some e) | inr n ↦ inr (λ e. n cc) ]
+holds_cases None p = inr (λ e. cc)
 
 -- what is in ring after p has left was there before, and is not p
 was_in :
@@ -76,7 +76,7 @@ module _ {K : Type 0} {order : K → K → Ordering} (laws : Lawful order) (buck
           let a = s.unlike q r (was q i).0 (was r j).0 in
           grind (arith, t.keys);
       head_in_ring = λ b h e.
-          let d1 = head_is (v.head b) p in
+          let d1 = holds_cases (v.head b) p in
           let d2 = cases_eq h p in
           let h1 = t.headed b in
           let h2 = t.heads b in
@@ -86,7 +86,7 @@ module _ {K : Type 0} {order : K → K → Ordering} (laws : Lawful order) (buck
           let o2 = t.others h in
           grind arith;
       head_in_bucket = λ b h e.
-          let d = head_is (v.head b) p in
+          let d = holds_cases (v.head b) p in
           let h1 = t.headed b in
           let h2 = t.heads b in
           let s1 = s.head_in_bucket b h in
@@ -96,7 +96,7 @@ module _ {K : Type 0} {order : K → K → Ordering} (laws : Lawful order) (buck
           grind arith;
       no_head = λ q i e.
           let b = bucket (w.key q) in
-          let d = head_is (v.head b) p in
+          let d = holds_cases (v.head b) p in
           let h1 = t.headed b in
           let h2 = t.heads b in
           let r = s.no_head q (was q i).0 in
@@ -139,7 +139,7 @@ module _ {K : Type 0} {order : K → K → Ordering} (laws : Lawful order) (buck
           let a = s.unlike q r (was_last q i).0 (was_last r j).0 in
           grind (arith, t.keys);
       head_in_ring = λ b h e.
-          let d1 = head_is (v.head b) p in
+          let d1 = holds_cases (v.head b) p in
           let d2 = cases_eq h p in
           let h1 = t.headless b in
           let h2 = t.heads b in
@@ -147,7 +147,7 @@ module _ {K : Type 0} {order : K → K → Ordering} (laws : Lawful order) (buck
           let o = t.others h in
           grind arith;
       head_in_bucket = λ b h e.
-          let d = head_is (v.head b) p in
+          let d = holds_cases (v.head b) p in
           let h1 = t.headless b in
           let h2 = t.heads b in
           let r = s.head_in_bucket b h in
@@ -156,7 +156,7 @@ module _ {K : Type 0} {order : K → K → Ordering} (laws : Lawful order) (buck
       no_head = λ q i e.
           let o = was_last q i in
           let b = bucket (w.key q) in
-          let d = head_is (v.head b) p in
+          let d = holds_cases (v.head b) p in
           let h1 = t.headless b in
           let h2 = t.heads b in
           let s1 = s.no_head q o.0 in

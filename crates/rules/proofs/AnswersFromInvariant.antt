@@ -72,8 +72,8 @@ module _ {K V : Type 0} (order : K → K → Ordering) (digest : K → Hash) (pl
   answers_noted s v h = let g = given_noted s in let k = ap given h in note_is (plain.notes s) v (sym g ∙ k)
     where
       note_is : (note : Note K V) (v : Option V) → noted note ≡ Some v → note ≡ answer v
-      note_is nothing v e = let z : ◌≡◌ {A = ℕ} 0 1 = cc in absurd (omega arith)
-      note_is (asked t) v e = let z : ◌≡◌ {A = ℕ} 0 1 = cc in absurd (omega arith)
+      note_is nothing v e = absurd cc
+      note_is (asked t) v e = absurd cc
       note_is (answer u) v e = cc
 
   -- what is noted is answered
@@ -82,4 +82,4 @@ module _ {K V : Type 0} (order : K → K → Ordering) (digest : K → Hash) (pl
     where
       reply_is : (r : Result (Option V) IndexFault) (v : Option V) → given r ≡ Some v → r ≡ Ok v
       reply_is (Ok u) v e = cc
-      reply_is (Err f) v e = let z : ◌≡◌ {A = ℕ} 0 1 = cc in absurd (omega arith)
+      reply_is (Err f) v e = absurd cc

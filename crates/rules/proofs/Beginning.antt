@@ -10,11 +10,12 @@ use Rattle.tables.specs.declared.session.Work.{Work}
 use Rattle.tables.specs.declared.session.Work.TheVariants.{Seeking}
 use Rattle.tables.specs.Items.{is_in_ring}
 use Rattle.tables.specs.Sessions.{aside_of, claim_of, job_of, operation_of}
+use Rattle.rings.proofs.Unlinking.{holds_cases}
 use Rattle.rules.specs.Plain.{Plain, nothing, asked, noting}
 use Rattle.rules.proofs.Views.{Whole, cursor_at, aside_at, claim_at, changed, set_stage, set_request, out_aside, release_view, aside_view, begin_view, abandon_view}
 use Rattle.rules.proofs.Invariant.{Kept}
 use Rattle.rules.proofs.Frames.{Own, absent_present, own_idle, own_working}
-use Rattle.rules.proofs.Quiet.{changed_here, changed_elsewhere, holds_cases, in_ring_is, quiet_kept}
+use Rattle.rules.proofs.Quiet.{changed_here, changed_elsewhere, in_ring_is, quiet_kept}
 use Rattle.rules.proofs.Stopping.{changed_at, changed_there, changed_not_there, regifted, stop_kept}
 
 -- what is asked of a place that a session is to set aside: it lies in the table, is out, and no session stands on it
@@ -34,7 +35,7 @@ module _ {K V : Type 0} {order rank : K → K → Ordering} {bucket : K → ℕ}
 
   -- what is in ring is not its aside
   ring_not_free : (p : ℕ) → v.state p ≡ InRing → aside ≡ Some p → ⊥
-  ring_not_free p r = not_free p (λ o. let z : ◌≡◌ {A = ℕ} 0 1 = cc in omega arith)
+  ring_not_free p r = not_free p (λ o. cc)
 
   begin_with :
       Kept order rank bucket (noting s (asked t) plain) n
@@ -67,7 +68,7 @@ module _ {K V : Type 0} {order rank : K → K → Ordering} {bucket : K → ℕ}
             record { set_aside = λ a. sym (state-rest c other) ∙ a; in_ring = λ a. sym (state-rest c other) ∙ a; key = λ a. key-rest c other };
         asides = λ u x differs i.
             let set = k.aside_state u x i in
-            let other = not_free x (λ o. let z : ◌≡◌ {A = ℕ} 0 1 = cc in omega arith) in
+            let other = not_free x (λ o. cc) in
             record { state = state-rest x other; key = key-rest x other; value = value-rest x other; next = ahead x other };
         claims = λ u p differs i.
             let other = ring_not_free p (k.claim_state u p i) in

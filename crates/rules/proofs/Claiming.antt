@@ -10,13 +10,14 @@ use Rattle.tables.specs.declared.session.Work.{Work}
 use Rattle.tables.specs.declared.session.Work.TheVariants.{Replacing, Removing}
 use Rattle.tables.specs.Items.{is_in_ring}
 use Rattle.tables.specs.Sessions.{aside_of, claim_of, cursor_of, job_of, operation_of}
+use Rattle.rings.proofs.Unlinking.{holds_cases}
 use Rattle.rules.specs.Plain.{Plain, asked}
 use Rattle.rules.proofs.Views.{Whole, aside_at, claim_at, changed, set_stage, act_view}
 use Rattle.rules.proofs.Invariant.{Kept}
 use Rattle.rules.proofs.Grounds.{Grounds, Ahead}
 use Rattle.rules.proofs.KindLaws.{Kind}
 use Rattle.rules.proofs.Frames.{absent_present, kept_own, own_work, own_working}
-use Rattle.rules.proofs.Quiet.{changed_here, changed_elsewhere, holds_cases, in_ring_is, quiet_kept}
+use Rattle.rules.proofs.Quiet.{changed_here, changed_elsewhere, in_ring_is, quiet_kept}
 
 -- the same state but for the nexts and one more mark
 abbrev pub claimed : {K V : Type 0} → (ℕ → ℕ) → ℕ → Whole K V → Whole K V
@@ -30,7 +31,7 @@ module _ {K V : Type 0} {order rank : K → K → Ordering} {bucket : K → ℕ}
     (nexts : ℕ → ℕ) (rest : (p : ℕ) → (aside_at (v.stage s) ≡ Some p → ⊥) → nexts p ≡ v.next p) where
   -- what is in ring is not set aside
   ring_next : (p : ℕ) → v.state p ≡ InRing → nexts p ≡ v.next p
-  ring_next p i = rest p (λ j. let a = k.aside_state s p j in let z : ◌≡◌ {A = ℕ} 0 1 = cc in omega arith)
+  ring_next p i = rest p (λ j. let a = k.aside_state s p j in cc)
 
   -- it goes on as the claim's work
   pub claim_made :

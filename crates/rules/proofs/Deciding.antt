@@ -2,6 +2,7 @@
 use Rattle.std.proofs.Common.{◌≡◌, ℕ, ◌<◌, Bool, true, false, cond, not, ◌&&◌, eqb, ltb, ◌⊎◌, List, length, Some, None, Ok, Err, Option, Result, sym, refl, ap, ◌∙◌, subst, inl, inr, arith}
 use Rattle.std.specs.List.{slice_get}
 use Rattle.std.proofs.lemmas.Bool.{lt-ltb, eqb-true}
+use Rattle.std.specs.Cmp.{Equal-is}
 use Rattle.std.specs.declared.cmp.Ordering.{Ordering}
 use Rattle.std.specs.declared.cmp.Ordering.TheVariants.{Equal}
 use Rattle.std.specs.Ordering.{is_eq}
@@ -40,10 +41,6 @@ abbrev pub Decided : {K V : Type 0} → (K → K → Ordering) → (K → Hash) 
 Decided order digest d e st s work (Ok m) =
     Grounds order (by_rank order digest st.core.bits) (bucket_of order digest st.core.bits) st.core.places (whole d e st) s work m
 Decided order digest d e st s work (Err fault) = ⊥
-
--- a test that says alike
-alike_when_true : (x : Ordering) → is_eq x ≡ true → x ≡ Equal
-alike_when_true x h = grind arith
 
 -- an item in ring is in its table
 item_in_ring : {K V : Type 0} (items : List (Item K V)) (p : ℕ) → state_in (slice_get items p) ≡ InRing → (it : Item K V) × (slice_get items p ≡ Some it)
@@ -115,7 +112,7 @@ module _ {K V : Type 0} (order : K → K → Ordering) (digest : K → Hash) (la
   -- an item with the rank of the sought key has a key alike to it
   alike_ranked : (p : ℕ) (it : Item K V) → slice_get st.items p ≡ Some it → has_rank order digest st r.key it.key ≡ true → order (w.key p) (w.want s) ≡ Equal
   alike_ranked p it at h =
-      let a = (kind_of order digest laws st.core.bits).same_rank it.key r.key (alike_when_true _ h) in
+      let a = (kind_of order digest laws st.core.bits).same_rank it.key r.key ((Equal-is _).0 h) in
       ap (λ k. order k (w.want s)) (ap (key_in d) at) ∙ ap (order it.key) want_is ∙ a
 
   -- the session seeks, and stands on the item `it` in ring

@@ -71,7 +71,7 @@ module _ {K V : Type 0} {order rank : K → K → Ordering} {bucket : K → ℕ}
         let chained = (total_preorder laws).alike_chained in
         let es = plain.entries in
         revalued_kept plain (putting order x (Some y) plain) w (changed p y w.value) w.head k
-        (λ a e. changed_elsewhere p y w.value a (λ same. (let r = i in let z : ◌≡◌ {A = ℕ} 0 1 = cc in omega arith)))
+        (λ a e. changed_elsewhere p y w.value a (λ same. (let r = i in cc)))
         k.rings (λ s. refl)
         (record {
           held = λ q r. elim (cases_eq q p) [

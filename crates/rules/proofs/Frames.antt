@@ -18,7 +18,7 @@ use Rattle.rules.proofs.Invariant.{Kept}
 
 -- nothing is both absent and present
 pub absent_present : {A : Type 0} {o : Option A} {a : A} → o ≡ None → o ≡ Some a → ⊥
-absent_present e h = let z : ◌≡◌ {A = ℕ} 0 1 = cc in omega arith
+absent_present e h = cc
 
 -- what holds of one session by itself
 pub record Own {K V : Type 0} (order : K → K → Ordering) (bucket : K → ℕ) (plain : Plain K V) (n : ℕ) (w : Whole K V) (s : ℕ) : Type 0 where
@@ -163,9 +163,9 @@ module _ {K V : Type 0} {order : K → K → Ordering} {bucket : K → ℕ} {pla
       let aside = ap aside_at e in
       let claim = ap claim_at e in
       record {
-        idle = λ i. let z : ◌≡◌ {A = ℕ} 0 1 = cc in absurd (omega arith);
+        idle = λ i. absurd cc;
         under_way = λ other i. h ∙ (cc);
-        ended = λ op present i. let z : ◌≡◌ {A = ℕ} 0 1 = cc in absurd (omega arith);
+        ended = λ op present i. absurd cc;
         cursor_within = λ c i. o.cursor_within c (sym cursor ∙ i);
         cursor_state = λ c i. o.cursor_state c (sym cursor ∙ i);
         cursor_bucket = λ c i. o.cursor_bucket c (sym cursor ∙ i);
@@ -203,14 +203,14 @@ module _ {K V : Type 0} {order : K → K → Ordering} {bucket : K → ℕ} {pla
   -- an idle session
   pub own_idle : w.stage s ≡ Idle → plain.notes s ≡ nothing → Own order bucket plain n w s
   own_idle e h =
-      own_bare (λ i. h) (λ work i. let z : ◌≡◌ {A = ℕ} 0 1 = cc in omega arith)
-      (λ o present i. let z : ◌≡◌ {A = ℕ} 0 1 = cc in absurd (omega arith)) (ap cursor_at e) (ap aside_at e) (ap claim_at e)
+      own_bare (λ i. h) (λ work i. cc)
+      (λ o present i. absurd cc) (ap cursor_at e) (ap aside_at e) (ap claim_at e)
 
   -- a session that has ended
   pub own_ended :
       (o : Operation) (present : Bool) → w.stage s ≡ Ended o present → plain.notes s ≡ answer (cond present (Some (w.gift s)) None) → Own order bucket plain n w s
   own_ended o present e h =
-      own_bare (λ i. let z : ◌≡◌ {A = ℕ} 0 1 = cc in absurd (omega arith)) (λ work i. let z : ◌≡◌ {A = ℕ} 0 1 = cc in omega arith)
+      own_bare (λ i. absurd cc) (λ work i. cc)
       (λ other again i. let same : again ≡ present = cc in h ∙ ap (λ b. answer (cond b (Some (w.gift s)) None)) (sym same))
       (ap cursor_at e) (ap aside_at e) (ap claim_at e)
 

@@ -72,7 +72,7 @@ module _ (part : Stage → Option ℕ) where
 
   -- fewer, if one of them is idle
   parts_fewer : part Idle ≡ None → (xs : List Session) (s : ℕ) (x : Session) → slice_get xs s ≡ Some x → x.stage ≡ Idle → (n : ℕ) → count_below (is_part xs) n < length xs
-  parts_fewer missing [] s x at idle n = let z : ◌≡◌ {A = ℕ} 0 1 = cc in absurd (omega arith)
+  parts_fewer missing [] s x at idle n = absurd cc
   parts_fewer missing (y ∷ xs) zero x at idle n =
       let rest = parts_few xs n in
       let same : y ≡ x = cc in
@@ -88,7 +88,7 @@ module _ (part : Stage → Option ℕ) where
 
   -- a part of the session s is a part of some session
   part_of : part Idle ≡ None → (xs : List Session) (s p : ℕ) → part (stage_in (slice_get xs s)) ≡ Some p → is_part xs p ≡ true
-  part_of missing [] s p h = let z : ◌≡◌ {A = ℕ} 0 1 = cc in absurd (omega arith)
+  part_of missing [] s p h = absurd cc
   part_of missing (x ∷ xs) zero p h = or_left _ _ (ap (is_at p) h ∙ eq-eqb p p refl)
   part_of missing (x ∷ xs) (suc s) p h = or_right _ _ (part_of missing xs s p h)
 
@@ -101,11 +101,11 @@ module _ {K V : Type 0} (st : State K V) (s : ℕ) (task : Task K V) where
   -- a begin refused for want of a place: the session is idle and no place is free
   refused_stage : (stage : Stage) → (begin_stage st s task stage).0 ≡ Err fault.NoPlace → (stage ≡ Idle) × (first_free st ≡ None)
   refused_stage Idle h = (refl, refused_job (first_free st) task.operation h)
-  refused_stage (UnderWay w) h = let z : ◌≡◌ {A = ℕ} 0 1 = cc in absurd (omega arith)
-  refused_stage (Ended o present) h = let z : ◌≡◌ {A = ℕ} 0 1 = cc in absurd (omega arith)
+  refused_stage (UnderWay w) h = absurd cc
+  refused_stage (Ended o present) h = absurd cc
 
   refused_seat : (o : Option Session) → (begin_seat st s task (ok_or o fault.NoSession)).0 ≡ Err fault.NoPlace → (x : Session) × (o ≡ Some x) × (x.stage ≡ Idle) × (first_free st ≡ None)
-  refused_seat None h = let z : ◌≡◌ {A = ℕ} 0 1 = cc in absurd (omega arith)
+  refused_seat None h = absurd cc
   refused_seat (Some x) h = let r = refused_stage x.stage h in (x, refl, r.0, r.1)
 
 module _ {K V : Type 0} (order : K → K → Ordering) (digest : K → Hash) (plain : Plain K V) (st : State K V) (inv : Inv order digest plain st) where

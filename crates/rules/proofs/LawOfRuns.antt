@@ -28,7 +28,7 @@ use Rattle.rules.proofs.Stepping.{step_keeps, step_places}
 -- a reply that collected a value
 collected_is : {V : Type 0} (r : Result (Option V) IndexFault) (v : Option V) → replied Collected r ≡ Ok (Collected v) → r ≡ Ok v
 collected_is (Ok u) v h = cc
-collected_is (Err f) v h = let z : ◌≡◌ {A = ℕ} 0 1 = cc in absurd (omega arith)
+collected_is (Err f) v h = absurd cc
 
 -- what one step from a state that satisfies the invariant answers
 module _ {K V : Type 0} (order : K → K → Ordering) (digest : K → Hash) (plain : Plain K V) (st : State K V) (inv : Inv order digest plain st) where

@@ -8,13 +8,14 @@ use Rattle.tables.specs.declared.session.Stage.TheVariants.{UnderWay}
 use Rattle.tables.specs.declared.session.Work.{Work}
 use Rattle.tables.specs.declared.session.Work.TheVariants.{Seeking, Replacing, Removing}
 use Rattle.tables.specs.Sessions.{claim_of, job_of}
+use Rattle.rings.proofs.Unlinking.{holds_cases}
 use Rattle.rules.specs.Plain.{Plain}
 use Rattle.rules.proofs.Views.{Whole, aside_at, claim_at, changed, set_stage, release_view, act_view}
 use Rattle.rules.proofs.Invariant.{Kept}
 use Rattle.rules.proofs.Grounds.{Grounds, Seeks}
 use Rattle.rules.proofs.KindLaws.{Kind}
 use Rattle.rules.proofs.Frames.{absent_present, kept_own, own_work, own_working}
-use Rattle.rules.proofs.Quiet.{changed_here, changed_elsewhere, holds_cases, quiet_kept, in_use}
+use Rattle.rules.proofs.Quiet.{changed_here, changed_elsewhere, quiet_kept, in_use}
 
 -- the same state but for the marks
 abbrev pub remarked : {K V : Type 0} → (ℕ → Bool) → Whole K V → Whole K V
@@ -55,7 +56,7 @@ module _ {K V : Type 0} {order rank : K → K → Ordering} {bucket : K → ℕ}
       (own_working (Seeking (job_of work) cursor) stage (k.under_way s work e)
       (record {
         cursor_within = λ c i. k.within c (in_use (stands c i).0);
-        cursor_state = λ c i a. (let r = (stands c i).0 in let z : ◌≡◌ {A = ℕ} 0 1 = cc in omega arith);
+        cursor_state = λ c i a. (let r = (stands c i).0 in cc);
         cursor_bucket = λ c i r. (stands c i).1;
         aside_state = own.aside_state;
         aside_key = own.aside_key;

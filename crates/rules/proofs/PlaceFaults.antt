@@ -125,7 +125,7 @@ module _ {K V : Type 0} (st : State K V) (s : ℕ) where
 
 -- a reply that is refused for want of a place
 replied_wants : {A V : Type 0} (reply : A → Reply V) (r : Result A IndexFault) → replied reply r ≡ Err NoPlace → r ≡ Err NoPlace
-replied_wants reply (Ok a) h = let z : ◌≡◌ {A = ℕ} 0 1 = cc in absurd (omega arith)
+replied_wants reply (Ok a) h = absurd cc
 replied_wants reply (Err f) h = cc
 
 -- is the reply to a begin
@@ -135,12 +135,12 @@ refused_begins order digest st s (Begin t) h = (t, replied_wants (λ _. Begun) (
 refused_begins order digest st s Turn h =
     let t = turn_wants_none order digest st s (seat st s) (seat_wants_none st s) in
     let e = replied_wants Turned (turn order digest st s).0 h in
-    let z : ◌≡◌ {A = ℕ} 0 1 = cc in absurd (omega arith)
+    absurd cc
 refused_begins order digest st s Collect h =
     let t = collect_wants_none st s (seat st s) (seat_wants_none st s) in
     let e = replied_wants Collected (collect st s).0 h in
-    let z : ◌≡◌ {A = ℕ} 0 1 = cc in absurd (omega arith)
+    absurd cc
 refused_begins order digest st s Abandon h =
     let t = abandon_wants_none st s (seat st s) (seat_wants_none st s) in
     let e = replied_wants (λ _. Abandoned) (abandon st s).0 h in
-    let z : ◌≡◌ {A = ℕ} 0 1 = cc in absurd (omega arith)
+    absurd cc

@@ -18,14 +18,14 @@ found_cases (Some v) = inr (v, refl)
 
 -- two keys are alike or not
 pub alike_cases : (o : Ordering) → (o ≡ Equal) ⊎ (o ≡ Equal → ⊥)
-alike_cases Less = inr (λ e. let z : ◌≡◌ {A = ℕ} 0 1 = cc in omega arith)
+alike_cases Less = inr (λ e. cc)
 alike_cases Equal = inl refl
-alike_cases Greater = inr (λ e. let z : ◌≡◌ {A = ℕ} 0 1 = cc in omega arith)
+alike_cases Greater = inr (λ e. cc)
 
 module _ {K V : Type 0} (order : K → K → Ordering) where
   -- a value stored at a key that is present leaves as many entries
   pub length_stored_present : (x : K) (v u : V) (es : List (K × V)) → found order x es ≡ Some u → length (stored order x v es) ≡ length es
-  length_stored_present x v u [] h = let z : ◌≡◌ {A = ℕ} 0 1 = cc in absurd (omega arith)
+  length_stored_present x v u [] h = absurd cc
   length_stored_present x v u (e ∷ es) h = let ih = length_stored_present x v u es in grind arith
 
   -- a value stored at a key that is absent adds one entry
@@ -35,7 +35,7 @@ module _ {K V : Type 0} (order : K → K → Ordering) where
 
   -- a key that is present, deleted, takes one entry off
   pub length_deleted_present : (x : K) (u : V) (es : List (K × V)) → found order x es ≡ Some u → suc (length (deleted order x es)) ≡ length es
-  length_deleted_present x u [] h = let z : ◌≡◌ {A = ℕ} 0 1 = cc in absurd (omega arith)
+  length_deleted_present x u [] h = absurd cc
   length_deleted_present x u (e ∷ es) h = let ih = length_deleted_present x u es in grind arith
 
   -- a key that is absent, deleted, changes nothing
@@ -147,12 +147,9 @@ module _ {K V : Type 0} (order : K → K → Ordering) where
   pub length_inserted : (x : K) (v : V) (es : List (K × V)) → found order x es ≡ None → length (put order x (leaves Insert v (found order x es)) es) ≡ suc (length es)
   length_inserted x v es h = ap length (put_done Insert x v None es h) ∙ length_stored_absent order x v es h
 
-  -- a replace or a write that found something leaves as many
+  -- a replace that found something leaves as many
   pub length_replaced : (x : K) (v u : V) (es : List (K × V)) → found order x es ≡ Some u → length (put order x (leaves Replace v (found order x es)) es) ≡ length es
   length_replaced x v u es h = ap length (put_done Replace x v (Some u) es h) ∙ length_stored_present order x v u es h
-
-  pub length-written : (x : K) (v u : V) (es : List (K × V)) → found order x es ≡ Some u → length (put order x (leaves Write v (found order x es)) es) ≡ length es
-  length-written x v u es h = ap length (put_done Write x v (Some u) es h) ∙ length_stored_present order x v u es h
 
   -- a remove that found something takes one entry off
   pub length_removed : (x : K) (v u : V) (es : List (K × V)) → found order x es ≡ Some u → suc (length (put order x (leaves Remove v (found order x es)) es)) ≡ length es

@@ -26,24 +26,19 @@ module _ {X : Type 0} where
 
 -- an item that passes the test is in ring
 pub in_ring_is : (a : ItemState) → is_in_ring a ≡ true → a ≡ InRing
-in_ring_is Out e = let z : ◌≡◌ {A = ℕ} 0 1 = cc in absurd (omega arith)
-in_ring_is SetAside e = let z : ◌≡◌ {A = ℕ} 0 1 = cc in absurd (omega arith)
+in_ring_is Out e = absurd cc
+in_ring_is SetAside e = absurd cc
 in_ring_is InRing e = refl
 
 -- an item in ring is in use
 pub in_use : {a : ItemState} → a ≡ InRing → a ≡ Out → ⊥
-in_use i o = let z : ◌≡◌ {A = ℕ} 0 1 = cc in omega arith
-
--- a place is held or not
-pub holds_cases : (o : Option ℕ) (x : ℕ) → (o ≡ Some x) ⊎ (o ≡ Some x → ⊥)
-holds_cases None x = inr (λ e. absent_present refl e)
-holds_cases (Some y) x = elim (cases_eq y x) [ inl e ↦ inl (ap Some e) | inr differs ↦ inr (λ e. differs (cc)) ]
+in_use i o = cc
 
 -- an item is out or not
 out_cases : (a : ItemState) → (a ≡ Out) ⊎ (a ≡ Out → ⊥)
 out_cases Out = inl refl
-out_cases SetAside = inr (λ e. let z : ◌≡◌ {A = ℕ} 0 1 = cc in omega arith)
-out_cases InRing = inr (λ e. let z : ◌≡◌ {A = ℕ} 0 1 = cc in omega arith)
+out_cases SetAside = inr (λ e. cc)
+out_cases InRing = inr (λ e. cc)
 
 module _ {K V : Type 0} {order : K → K → Ordering} {plain plain' : Plain K V} {n : ℕ} {v w : Whole K V} where
   -- the plain table still has what is in ring, if keys have the values that they had

@@ -29,7 +29,7 @@ first_is (p ∷ ps) = refl
 
 -- a head that is read is the number that is written
 head_written : (o : Option ℕ) (h : ℕ) → head_in o ≡ Some h → o ≡ Some h
-head_written None h e = let z : ◌≡◌ {A = ℕ} 0 1 = cc in absurd (omega arith)
+head_written None h e = absurd cc
 head_written (Some x) h e = let c = cases_Bool (eqb x none) in grind arith
 
 -- where none is read, the number that stands for none is written
@@ -38,7 +38,7 @@ no_head_written x e = elim (cases_Bool (eqb x none)) [ inl t ↦ eqb-true x none
 
 -- what is in ring lies in the table
 item_in_ring : {K V : Type 0} (o : Option (Item K V)) → is_in_ring (state_in o) ≡ true → (it : Item K V) × (o ≡ Some it) × (it.state ≡ InRing)
-item_in_ring None e = let z : ◌≡◌ {A = ℕ} 0 1 = cc in absurd (omega arith)
+item_in_ring None e = absurd cc
 item_in_ring (Some it) e = (it, refl, in_ring_is it.state e)
 
 -- a way by the nexts of the view is one by the nexts of the items
@@ -98,7 +98,7 @@ module _ {K V : Type 0} (order : K → K → Ordering) (digest : K → Hash) (la
       let kind = kind_of order digest laws st.core.bits in
       record {
         starts = written;
-        closes = λ g f. let z : ◌≡◌ {A = ℕ} 0 1 = cc in absurd (omega arith);
+        closes = λ g f. absurd cc;
         once = tt;
         holds = λ p i. absurd i;
         all = λ x v here has.
@@ -106,7 +106,7 @@ module _ {K V : Type 0} (order : K → K → Ordering) (digest : K → Hash) (la
             let bucket = kind.one_bucket _ x k.2 ∙ here in
             absurd (kept.rings.no_head k.0 (ap is_in_ring k.1) (ap (λ c. head_in (slice_get st.heads c)) bucket ∙ unread));
         unlike = λ p q x i j at_p at-q. absurd i;
-        falls = λ g f. let z : ◌≡◌ {A = ℕ} 0 1 = cc in absurd (omega arith);
+        falls = λ g f. absurd cc;
       }
 
   -- by what is read at the bucket's head
@@ -116,7 +116,7 @@ module _ {K V : Type 0} (order : K → K → Ordering) (digest : K → Hash) (la
   ring_by x written (Some h) read =
       let kind = kind_of order digest laws st.core.bits in
       let listed = list_form kind.ranked (bucket_of order digest st.core.bits) (rings_of (whole d e st)) st.core.places b h kept.rings
-      (λ p i. kept.within p (λ out. let k = ap is_in_ring out in let z : ◌≡◌ {A = ℕ} 0 1 = cc in absurd (omega arith))) (ap head_in written ∙ read) in
+      (λ p i. kept.within p (λ out. let k = ap is_in_ring out in absurd cc)) (ap head_in written ∙ read) in
       (listed.0, headed_ring h listed.0 (written ∙ head_written (Some x) h read) listed.1)
 
 -- every bucket has its ring

@@ -10,11 +10,12 @@ use Rattle.tables.specs.declared.session.Stage.TheVariants.{UnderWay, Ended}
 use Rattle.tables.specs.declared.session.Work.TheVariants.{Seeking}
 use Rattle.tables.specs.Items.{is_in_ring}
 use Rattle.tables.specs.Sessions.{aside_of, operation_of}
+use Rattle.rings.proofs.Unlinking.{holds_cases}
 use Rattle.rules.specs.Plain.{Plain, answer, noting}
 use Rattle.rules.proofs.Views.{Whole, aside_at, claim_at, changed, set_stage, out_aside, release_view, ended_view}
 use Rattle.rules.proofs.Invariant.{Kept}
 use Rattle.rules.proofs.Frames.{Own, absent_present, own_ended}
-use Rattle.rules.proofs.Quiet.{changed_here, changed_elsewhere, holds_cases, quiet_kept}
+use Rattle.rules.proofs.Quiet.{changed_here, changed_elsewhere, quiet_kept}
 
 -- the same state but for the answers
 abbrev pub regifted : {K V : Type 0} → (ℕ → V) → Whole K V → Whole K V
@@ -44,7 +45,7 @@ module _ {K V : Type 0} {order rank : K → K → Ordering} {bucket : K → ℕ}
 
   -- an item in ring is as it was
   ring_place : (p : ℕ) → v.state p ≡ InRing → states p ≡ v.state p
-  ring_place p r = in_place p (λ i. let a = k.aside_state s p i in let z : ◌≡◌ {A = ℕ} 0 1 = cc in omega arith)
+  ring_place p r = in_place p (λ i. let a = k.aside_state s p i in cc)
 
   -- what is marked was so, and is not the session's claim
   was_marked : (p : ℕ) → marks p ≡ true → (v.mark p ≡ true) × (claim_at (v.stage s) ≡ Some p → ⊥)
@@ -66,8 +67,8 @@ module _ {K V : Type 0} {order rank : K → K → Ordering} {bucket : K → ℕ}
         wants = λ t differs. refl;
         gifts = others;
         cursors = λ t c differs i. record {
-          set_aside = λ a. sym (as_was c (λ o. let z : ◌≡◌ {A = ℕ} 0 1 = cc in omega arith)) ∙ a;
-          in_ring = λ a. sym (as_was c (λ o. let z : ◌≡◌ {A = ℕ} 0 1 = cc in omega arith)) ∙ a;
+          set_aside = λ a. sym (as_was c (λ o. cc)) ∙ a;
+          in_ring = λ a. sym (as_was c (λ o. cc)) ∙ a;
           key = λ a. refl;
         };
         asides = λ t x differs i. record { state = in_place x (λ j. differs (k.aside_apart t s x i j)); key = refl; value = refl; next = refl };
@@ -82,7 +83,7 @@ module _ {K V : Type 0} {order rank : K → K → Ordering} {bucket : K → ℕ}
       (record {
         aside_new = λ t x differs i j. absent_present (ap aside_at here ∙ aside) i;
         aside_left = λ x a.
-            let used : states x ≡ Out → ⊥ = λ o. (let z : ◌≡◌ {A = ℕ} 0 1 = cc in omega arith) in
+            let used : states x ≡ Out → ⊥ = λ o. (cc) in
             inr (sym (as_was x used) ∙ a, not_aside x used);
         claim_new = λ t p differs i j. absent_present (ap claim_at here ∙ claim) i;
         claim_left = λ p i. inr (was_marked p i);

@@ -14,7 +14,7 @@ use Rattle.rings.specs.Rings.{Sound}
 use Rattle.rings.proofs.Counting.{without, count_one}
 use Rattle.rings.proofs.Nexts.{not_own_next}
 use Rattle.rings.proofs.Replacing.{replace_keeps_sound}
-use Rattle.rings.proofs.Unlinking.{unlink_keeps_sound, unlink_last_keeps_sound}
+use Rattle.rings.proofs.Unlinking.{unlink_keeps_sound, unlink_last_keeps_sound, holds_cases}
 use Rattle.tables.specs.declared.item.ItemState.{ItemState}
 use Rattle.tables.specs.declared.item.ItemState.TheVariants.{Out, SetAside, InRing}
 use Rattle.tables.specs.declared.moves.HeadMove.{HeadMove}
@@ -33,7 +33,6 @@ use Rattle.rules.proofs.Grounds.{Grounds, MaySwing}
 use Rattle.rules.proofs.Invariant.{Kept}
 use Rattle.rules.proofs.KindLaws.{Kind}
 use Rattle.rules.proofs.PlainTables.{put_done, length_replaced, length_removed}
-use Rattle.rules.proofs.Quiet.{holds_cases}
 use Rattle.rules.proofs.RingChanges.{done_by, Ending, Puts, ending_kept, puts_agree, count_more}
 use Rattle.rules.proofs.Views.{Whole, rings_of, aside_at, claim_at, changed, set_state, set_mark, set_next, head_view, ended_view, act_view}
 
@@ -286,7 +285,7 @@ module _ {K V : Type 0} {order rank : K → K → Ordering} {bucket : K → ℕ}
             let only = only_claimed kind v s c p (Removing (c, p)) k at refl may q in
             let d = cases_eq q p in
             grind (arith, nat_tests);
-        there = λ w e. let z : ◌≡◌ {A = ℕ} 0 1 = cc in absurd (omega arith);
+        there = λ w e. absurd cc;
       }
 
   -- one less is in ring
