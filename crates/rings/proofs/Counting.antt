@@ -45,14 +45,14 @@ pub count_fewer :
     (m : ℕ) → f m ≡ false → g m ≡ true → (n : ℕ) → m < n → count_below f n < count_below g n
 count_fewer f g weaker m fails passes n l =
     let one = count_one g m passes n l in
-    let w = count_weaker f (without g m) (λ k t. let u = weaker k t in let d = cases_eq k m in grind arith) n in
+    let w = count_weaker f (without g m) (λ k t. grind (arith, weaker, cases_eq)) n in
     omega arith
 
 -- a list of the numbers that pass, each once, is as long as they are many
 pub count_listed :
     (ps : List ℕ) (test : ℕ → Bool) (n : ℕ) → Once ps → ((p : ℕ) → In p ps → p < n) →
     ((p : ℕ) → In p ps → test p ≡ true) → ((p : ℕ) → test p ≡ true → In p ps) → length ps ≡ count_below test n
-count_listed [] test n once within only all = let z = count_none test all n in grind arith
+count_listed [] test n once within only all = grind (arith, count_none)
 count_listed (p ∷ ps) test n once within only all =
     let one = count_one test p (only p (inl refl)) n (within p (inl refl)) in
     let others : (q : ℕ) → In q ps → without test p q ≡ true =

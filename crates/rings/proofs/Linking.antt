@@ -20,22 +20,12 @@ module _ {K : Type 0} {order : K → K → Ordering} (laws : Lawful order) (buck
     -- the new next of c is x, which is in ring, and the next of x is c's old one
     next_in_ring' : (p : ℕ) → w.in_ring p ≡ true → w.in_ring (w.next p) ≡ true
     next_in_ring' p i =
-        let d1 = cases_eq p x in
-        let d2 = cases_eq p c in
-        let d3 = cases_eq (v.next p) x in
-        let d4 = cases_eq (v.next c) x in
-        let s1 = s.next_in_ring p in
-        let s2 = s.next_in_ring c c-in in
-        grind (arith, t.others, t.rest, t.behind, t.ahead, t.entered)
+        grind (arith, t.others, t.rest, t.behind, t.ahead, t.entered, cases_eq, s.next_in_ring)
 
     -- x is in the bucket of c
     next_in_bucket' : (p : ℕ) → w.in_ring p ≡ true → bucket (w.key (w.next p)) ≡ bucket (w.key p)
     next_in_bucket' p i =
-        let d1 = cases_eq p x in
-        let d2 = cases_eq p c in
-        let s1 = s.next_in_bucket p in
-        let s2 = s.next_in_bucket c c-in in
-        grind (arith, t.keys, t.others, t.rest, t.behind, t.ahead, t.entered)
+        grind (arith, t.keys, t.others, t.rest, t.behind, t.ahead, t.entered, cases_eq, s.next_in_bucket)
 
     -- nothing is on the two new arcs, since they are parts of the old one, and x is on no other, since it lies on one arc only
     nothing_between' : (p q : ℕ) → w.in_ring p ≡ true → w.in_ring q ≡ true → bucket (w.key q) ≡ bucket (w.key p) →
@@ -80,21 +70,13 @@ module _ {K : Type 0} {order : K → K → Ordering} (laws : Lawful order) (buck
       nothing_between = nothing_between';
       unlike = unlike';
       head_in_ring = λ b h e.
-          let d = cases_eq h x in
-          let o = t.others h in
           let r = s.head_in_ring b h (sym (t.heads b) ∙ e) in
-          grind (arith, t.entered);
+          grind (arith, t.entered, cases_eq, t.others);
       head_in_bucket = λ b h e.
           let r = s.head_in_bucket b h (sym (t.heads b) ∙ e) in
           grind (arith, t.keys);
       no_head = λ p i e.
-          let d = cases_eq p x in
-          let o = t.others p in
-          let k = t.keys p in
-          let r = t.heads (bucket (w.key p)) in
-          let s1 = s.no_head p in
-          let s2 = s.no_head c c-in in
-          grind arith;
+          grind (arith, cases_eq, t.others, t.keys, t.heads, s.no_head);
     }
 
   -- x is linked behind c
@@ -105,57 +87,25 @@ module _ {K : Type 0} {order : K → K → Ordering} (laws : Lawful order) (buck
       (x-out : v.in_ring x ≡ false) (headless : v.head (bucket (v.key x)) ≡ None) where
     -- the bucket of x has nothing in ring
     empty : (p : ℕ) → v.in_ring p ≡ true → bucket (v.key p) ≡ bucket (v.key x) → ⊥
-    empty p i b = let h = s.no_head p i in grind arith
+    empty p i b = grind (arith, s.no_head)
 
     -- so x meets no other place, and the other rings are as they were
     linked_alone_sound : Sound order bucket w
     linked_alone_sound = record {
       next_in_ring = λ p i.
-          let d1 = cases_eq p x in
-          let d2 = cases_eq (v.next p) x in
-          let r = s.next_in_ring p in
-          grind (arith, t.others, t.rest, t.alone, t.entered);
+          grind (arith, t.others, t.rest, t.alone, t.entered, cases_eq, s.next_in_ring);
       next_in_bucket = λ p i.
-          let d = cases_eq p x in
-          let r = s.next_in_bucket p in
-          grind (arith, t.others, t.rest, t.alone, t.keys);
+          grind (arith, t.others, t.rest, t.alone, t.keys, cases_eq, s.next_in_bucket);
       nothing_between = λ p q ip iq b.
-          let d1 = cases_eq p x in
-          let d2 = cases_eq q x in
-          let o1 = t.others p in
-          let o2 = t.others q in
-          let r = s.nothing_between p q in
-          let l1 = empty p in
-          let l2 = empty q in
-          let a = arc_without_start laws (v.key x) (v.key x) in
-          grind (arith, t.rest, t.alone, t.keys);
+          grind (arith, t.rest, t.alone, t.keys, cases_eq, t.others, s.nothing_between, empty, arc_without_start);
       unlike = λ p q ip iq e.
-          let d1 = cases_eq p x in
-          let d2 = cases_eq q x in
-          let o1 = t.others p in
-          let o2 = t.others q in
-          let r = s.unlike p q in
-          let l1 = empty p in
-          let l2 = empty q in
-          let b = alike_bucket (v.key p) (v.key q) in
-          grind (arith, t.keys);
+          grind (arith, t.keys, cases_eq, t.others, s.unlike, empty, alike_bucket);
       head_in_ring = λ b h e.
-          let d1 = cases_eq b (bucket (v.key x)) in
-          let d2 = cases_eq h x in
-          let r = s.head_in_ring b h in
-          grind (arith, t.others, t.heads, t.headed, t.entered);
+          grind (arith, t.others, t.heads, t.headed, t.entered, cases_eq, s.head_in_ring);
       head_in_bucket = λ b h e.
-          let d = cases_eq b (bucket (v.key x)) in
-          let r = s.head_in_bucket b h in
-          grind (arith, t.keys, t.heads, t.headed);
+          grind (arith, t.keys, t.heads, t.headed, cases_eq, s.head_in_bucket);
       no_head = λ p i e.
-          let d1 = cases_eq (bucket (w.key p)) (bucket (v.key x)) in
-          let d2 = cases_eq p x in
-          let o = t.others p in
-          let k = t.keys p in
-          let h = t.heads (bucket (w.key p)) in
-          let r = s.no_head p in
-          grind (arith, t.headed);
+          grind (arith, t.headed, cases_eq, t.others, t.keys, t.heads, s.no_head);
     }
 
   -- x is linked alone in its bucket

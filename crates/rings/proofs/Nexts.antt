@@ -13,45 +13,19 @@ untouched_keeps_sound order bucket v w s t =
     let old = λ (p : ℕ) (i : w.in_ring p ≡ true). sym (t.same p) ∙ i in
     record {
       next_in_ring = λ p i.
-          let o = old p i in
-          let n = t.nexts p o in
-          let r = s.next_in_ring p o in
-          grind (arith, t.same);
+          grind (arith, t.same, old, t.nexts, s.next_in_ring);
       next_in_bucket = λ p i.
-          let o = old p i in
-          let n = t.nexts p o in
-          let k = t.keys p o in
-          let m = t.keys (v.next p) (s.next_in_ring p o) in
-          let b = s.next_in_bucket p o in
-          grind arith;
+          grind (arith, old, t.nexts, t.keys, s.next_in_bucket);
       nothing_between = λ p q i j b.
-          let o = old p i in
-          let u = old q j in
-          let n = t.nexts p o in
-          let k = t.keys p o in
-          let l = t.keys q u in
-          let m = t.keys (v.next p) (s.next_in_ring p o) in
-          let c = s.nothing_between p q o u in
-          grind arith;
+          grind (arith, old, t.nexts, t.keys, s.nothing_between);
       unlike = λ p q i j e.
-          let o = old p i in
-          let u = old q j in
-          let k = t.keys p o in
-          let l = t.keys q u in
-          let a = s.unlike p q o u in
-          grind arith;
+          grind (arith, old, t.keys, s.unlike);
       head_in_ring = λ b h e. t.same h ∙ s.head_in_ring b h (sym (t.heads b) ∙ e);
       head_in_bucket = λ b h e.
           let was = sym (t.heads b) ∙ e in
-          let k = t.keys h (s.head_in_ring b h was) in
-          let r = s.head_in_bucket b h was in
-          grind arith;
+          grind (arith, t.keys, s.head_in_bucket);
       no_head = λ p i e.
-          let o = old p i in
-          let k = t.keys p o in
-          let n = s.no_head p o in
-          let r = t.heads (bucket (w.key p)) in
-          grind arith;
+          grind (arith, old, t.keys, s.no_head, t.heads);
     }
 
 module _ {K : Type 0} {order : K → K → Ordering} (laws : Lawful order) (bucket : K → ℕ) where
@@ -71,9 +45,7 @@ module _ {K : Type 0} {order : K → K → Ordering} (laws : Lawful order) (buck
       (v : View K) (c p : ℕ) → Sound order bucket v →
       v.in_ring c ≡ true → v.next c ≡ p → (c ≡ p → ⊥) → v.next p ≡ p → ⊥
   not_own_next v c p s c-in c-next c-not-p e =
-      let i = s.next_in_ring c c-in in
-      let o = next_one_to_one v c p s c-in in
-      grind arith
+      grind (arith, s.next_in_ring, next_one_to_one)
 
   -- a place that is its own next is alone: its arc goes all the way round
   pub alone_in_bucket : AloneLaw order bucket

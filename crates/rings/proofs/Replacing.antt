@@ -27,20 +27,16 @@ module _ {K : Type 0} {order : K → K → Ordering} (laws : Lawful order) (buck
 
     -- p has left
     not_p : (q : ℕ) → w.in_ring q ≡ true → q ≡ p → ⊥
-    not_p q i e = let o = t.left in grind arith
+    not_p q i e = grind (arith, t.left)
 
     -- what is in ring was in ring
     was_in_ring : (q : ℕ) → w.in_ring q ≡ true → v.in_ring (was q) ≡ true
     was_in_ring q i =
-        let d = cases_eq q x in
-        let n = not_p q i in
-        let o = t.others q in
-        let k = in_ring_p in
-        grind arith
+        grind (arith, cases_eq, not_p, t.others, in_ring_p)
 
     -- what was in ring is not x, so it stands where it stood
     was_same : (q : ℕ) → v.in_ring q ≡ true → was q ≡ q
-    was_same q i = let d = cases_eq q x in grind arith
+    was_same q i = grind (arith, cases_eq)
 
     -- the nexts lead to the same places
     was_next : (q : ℕ) → w.in_ring q ≡ true → v.next (was q) ≡ was (w.next q)
@@ -48,17 +44,14 @@ module _ {K : Type 0} {order : K → K → Ordering} (laws : Lawful order) (buck
         let n = not_p q i in
         let m = was_same (v.next (was q)) (s.next_in_ring (was q) (was_in_ring q i)) in
         elim (cases_eq q x) [
-          | inl e ↦ let d = cases_eq (v.next p) p in let a = t.ahead in let l = t.alone in grind arith
-          | inr ne ↦ let d = cases_eq q c in let b = t.behind in let r = t.rest q n in grind arith
+          | inl e ↦ grind (arith, cases_eq, t.ahead, t.alone)
+          | inr ne ↦ grind (arith, cases_eq, t.behind, t.rest)
         ]
 
     -- the keys are alike
     was_key : (q : ℕ) → order (w.key q) (v.key (was q)) ≡ Equal
     was_key q =
-        let d = cases_eq q x in
-        let k = t.keys q in
-        let r = (total_preorder laws).alike_itself (v.key q) in
-        grind arith
+        grind (arith, cases_eq, t.keys, (total_preorder laws).alike_itself)
 
     -- the buckets are equal
     was_bucket : (q : ℕ) → bucket (w.key q) ≡ bucket (v.key (was q))
@@ -67,15 +60,11 @@ module _ {K : Type 0} {order : K → K → Ordering} (laws : Lawful order) (buck
     -- no two places stood at one
     was_one_to_one : (q r : ℕ) → w.in_ring q ≡ true → w.in_ring r ≡ true → was q ≡ was r → q ≡ r
     was_one_to_one q r i j e =
-        let n1 = not_p q i in
-        let n2 = not_p r j in
-        let d1 = cases_eq q x in
-        let d2 = cases_eq r x in
-        grind arith
+        grind (arith, not_p, cases_eq)
 
     -- what was in ring and is not p stays
     stays : (q : ℕ) → v.in_ring q ≡ true → (q ≡ p → ⊥) → w.in_ring q ≡ true
-    stays q i n = let d = cases_eq q x in let o = t.others q n in grind arith
+    stays q i n = grind (arith, cases_eq, t.others)
 
     -- no next is p: c's is x now, and only c had p as its next
     next_in_ring' : (q : ℕ) → w.in_ring q ≡ true → w.in_ring (w.next q) ≡ true
@@ -113,30 +102,11 @@ module _ {K : Type 0} {order : K → K → Ordering} (laws : Lawful order) (buck
       unlike = λ q r i j e.
           was_one_to_one q r i j (s.unlike (was q) (was r) (was_in_ring q i) (was_in_ring r j) (was_alike q r e));
       head_in_ring = λ b h e.
-          let d1 = holds_cases (v.head b) p in
-          let d2 = cases_eq h p in
-          let h1 = t.headed b in
-          let h2 = t.heads b in
-          let r = s.head_in_ring b h in
-          let g = stays h in
-          grind (arith, t.entered);
+          grind (arith, t.entered, holds_cases, cases_eq, t.headed, t.heads, s.head_in_ring, stays);
       head_in_bucket = λ b h e.
-          let d = holds_cases (v.head b) p in
-          let h1 = t.headed b in
-          let h2 = t.heads b in
-          let s1 = s.head_in_bucket b h in
-          let s2 = s.head_in_bucket b p in
-          let k1 = t.keys h in
-          let k2 = alike_bucket _ _ alike in
-          grind arith;
+          grind (arith, holds_cases, t.headed, t.heads, s.head_in_bucket, t.keys, alike_bucket);
       no_head = λ q i e.
-          let b = bucket (w.key q) in
-          let d = holds_cases (v.head b) p in
-          let h1 = t.headed b in
-          let h2 = t.heads b in
-          let r = s.no_head (was q) (was_in_ring q i) in
-          let k = was_bucket q in
-          grind arith;
+          grind (arith, bucket, holds_cases, t.headed, t.heads, s.no_head, was_bucket);
     }
 
   -- x takes the place of p

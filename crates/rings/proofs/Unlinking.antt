@@ -42,23 +42,9 @@ module _ {K : Type 0} {order : K → K → Ordering} (laws : Lawful order) (buck
     unlinked_sound : Sound order bucket w
     unlinked_sound = record {
       next_in_ring = λ q i.
-          let o = was q i in
-          let d = cases_eq q c in
-          let s1 = s.next_in_ring q o.0 in
-          let s2 = s.next_in_ring p in_ring_p in
-          let u = next_one_to_one laws bucket v q c s o.0 c-in in
-          let r = t.rest q o.1 in
-          let o1 = t.others (v.next q) in
-          let o2 = t.others (v.next p) next_not_p in
-          grind (arith, t.behind);
+          grind (arith, t.behind, was, cases_eq, s.next_in_ring, next_one_to_one, t.rest, t.others);
       next_in_bucket = λ q i.
-          let o = was q i in
-          let d = cases_eq q c in
-          let s1 = s.next_in_bucket q o.0 in
-          let s2 = s.next_in_bucket p in_ring_p in
-          let s3 = s.next_in_bucket c c-in in
-          let r = t.rest q o.1 in
-          grind (arith, t.keys, t.behind);
+          grind (arith, t.keys, t.behind, was, cases_eq, s.next_in_bucket, t.rest);
       -- nothing is on the joined arc: it would be on one of the two old ones, or alike to p
       nothing_between = λ q r i j b.
           let o = was q i in
@@ -73,8 +59,7 @@ module _ {K : Type 0} {order : K → K → Ordering} (laws : Lawful order) (buck
           let u = s.unlike r p o'.0 in_ring_p in
           grind (arith, t.keys, t.behind);
       unlike = λ q r i j e.
-          let a = s.unlike q r (was q i).0 (was r j).0 in
-          grind (arith, t.keys);
+          grind (arith, t.keys, s.unlike);
       head_in_ring = λ b h e.
           let d1 = holds_cases (v.head b) p in
           let d2 = cases_eq h p in
@@ -95,13 +80,7 @@ module _ {K : Type 0} {order : K → K → Ordering} (laws : Lawful order) (buck
           let k = t.keys h in
           grind arith;
       no_head = λ q i e.
-          let b = bucket (w.key q) in
-          let d = holds_cases (v.head b) p in
-          let h1 = t.headed b in
-          let h2 = t.heads b in
-          let r = s.no_head q (was q i).0 in
-          let k = t.keys q in
-          grind arith;
+          grind (arith, bucket, holds_cases, t.headed, t.heads, s.no_head, t.keys);
     }
 
   -- p is taken out behind c
@@ -118,52 +97,19 @@ module _ {K : Type 0} {order : K → K → Ordering} (laws : Lawful order) (buck
     unlinked_last_sound : Sound order bucket w
     unlinked_last_sound = record {
       next_in_ring = λ q i.
-          let o = was_last q i in
-          let r = s.next_in_ring q o.0 in
-          let n = t.rest q o.1 in
-          let m = t.others (v.next q) in
-          let d = cases_eq (v.next q) p in
-          let u = next_one_to_one laws bucket v q p s o.0 p-in in
-          grind arith;
+          grind (arith, was_last, s.next_in_ring, t.rest, t.others, cases_eq, next_one_to_one);
       next_in_bucket = λ q i.
-          let o = was_last q i in
-          let r = s.next_in_bucket q o.0 in
-          let n = t.rest q o.1 in
-          grind (arith, t.keys);
+          grind (arith, t.keys, was_last, s.next_in_bucket, t.rest);
       nothing_between = λ q r i j b.
-          let o = was_last q i in
-          let a = s.nothing_between q r o.0 (was_last r j).0 in
-          let n = t.rest q o.1 in
-          grind (arith, t.keys);
+          grind (arith, t.keys, was_last, s.nothing_between, t.rest);
       unlike = λ q r i j e.
-          let a = s.unlike q r (was_last q i).0 (was_last r j).0 in
-          grind (arith, t.keys);
+          grind (arith, t.keys, s.unlike);
       head_in_ring = λ b h e.
-          let d1 = holds_cases (v.head b) p in
-          let d2 = cases_eq h p in
-          let h1 = t.headless b in
-          let h2 = t.heads b in
-          let r = s.head_in_ring b h in
-          let o = t.others h in
-          grind arith;
+          grind (arith, holds_cases, cases_eq, t.headless, t.heads, s.head_in_ring, t.others);
       head_in_bucket = λ b h e.
-          let d = holds_cases (v.head b) p in
-          let h1 = t.headless b in
-          let h2 = t.heads b in
-          let r = s.head_in_bucket b h in
-          let k = t.keys h in
-          grind arith;
+          grind (arith, holds_cases, t.headless, t.heads, s.head_in_bucket, t.keys);
       no_head = λ q i e.
-          let o = was_last q i in
-          let b = bucket (w.key q) in
-          let d = holds_cases (v.head b) p in
-          let h1 = t.headless b in
-          let h2 = t.heads b in
-          let s1 = s.no_head q o.0 in
-          let s2 = s.head_in_bucket b p in
-          let k = t.keys q in
-          let l = alone_in_bucket laws bucket v p q s p-in own-next o.0 in
-          grind arith;
+          grind (arith, was_last, bucket, holds_cases, t.headless, t.heads, s.no_head, s.head_in_bucket, t.keys, alone_in_bucket);
     }
 
   -- p, its own next, is taken out

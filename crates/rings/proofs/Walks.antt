@@ -69,10 +69,10 @@ module _ {K : Type 0} {order : K → K → Ordering} (laws : Lawful order) (buck
       let a = next_on_arc p i ne in
       let m = here_next p i in
       count_fewer (ahead (v.next p)) (ahead p)
-      (λ k t. let r = arc_back laws (v.key p) (v.key k) (v.key (v.next p)) (v.key h) in grind arith)
+      (λ k t. grind (arith, arc_back))
       (v.next p)
-      (let z = arc_without_start laws (v.key (v.next p)) (v.key h) in grind arith)
-      (let e = eq-eqb _ _ m.1 in grind arith)
+      (grind (arith, arc_without_start))
+      (grind (arith, eq-eqb))
       n (within (v.next p) m.0)
 
   -- the last place of a way
@@ -160,7 +160,7 @@ module _ {K : Type 0} {order : K → K → Ordering} (laws : Lawful order) (buck
   way_length places way =
       count_listed places (in_bucket bucket v b) n way.once
       (λ p i. within p (way.here p i).0)
-      (λ p i. let j = way.here p i in let e = eq-eqb _ _ j.1 in grind arith)
+      (λ p i. grind (arith, way.here, eq-eqb))
       (λ p t. let j : Here bucket v b p = (grind arith, grind arith) in way.all p j (around p j))
 
   -- the way from h round to h is the ring list
