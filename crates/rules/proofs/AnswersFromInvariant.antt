@@ -32,10 +32,9 @@ module _ {K V : Type 0} (order : K → K → Ordering) (digest : K → Hash) (pl
   -- the value of a session's request is its answer
   answer_here : (s : ℕ) (e : V) (present : Bool) → s < 16 → answer_of present (slice_get st.requests s) ≡ cond present (Some (gift_in e (slice_get st.requests s))) None
   answer_here s e present h =
-      let l = inv.shape.requests_long in
       let r = nth_within st.requests s (omega arith) in
       let k = r.1 in
-      grind arith
+      grind (arith, inv.shape.requests_long)
 
   -- at each stage of a session
   given_at : (s : ℕ) (session : Session) → slice_get st.core.sessions s ≡ Some session → (stage : Stage) → session.stage ≡ stage → given (collect_stage st s stage).0 ≡ noted (plain.notes s)

@@ -24,7 +24,7 @@ cursor_stands p stage h = grind (arith, nat_tests)
 -- if p is not stood on, no session has its cursor there
 not_stood_on : (p : ℕ) (ss : List Session) → is_stood_on p ss ≡ false → (s : ℕ) → cursor_at (stage_in (slice_get ss s)) ≡ Some p → ⊥
 not_stood_on p [] h s e = grind arith
-not_stood_on p (x ∷ ss) h zero e = let c = cursor_stands p x.stage e in grind arith
+not_stood_on p (x ∷ ss) h zero e = grind (arith, cursor_stands)
 not_stood_on p (x ∷ ss) h (suc s) e = not_stood_on p ss (grind arith) s e
 
 -- if p is stood on, some session has its cursor there
@@ -66,7 +66,7 @@ module _ {K V : Type 0} (d : K) (e : V) (st : State K V) (shape : Shape st) wher
       go :
           (o : Option (Item K V)) → slice_get st.items x ≡ o →
           (x < st.core.places) × ((whole d e st).state x ≡ Out) × ((s : ℕ) → cursor_at ((whole d e st).stage s) ≡ Some x → ⊥)
-      go None at = absurd (let p = passes in grind arith)
+      go None at = absurd (grind (arith, passes))
       go (Some it) at =
           let p = passes in
           let b = nth_bound st.items x it at in

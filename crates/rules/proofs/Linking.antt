@@ -72,9 +72,9 @@ module _ {K V : Type 0} {order rank : K → K → Ordering} {bucket : K → ℕ}
         operation = operation.Insert;
         present = false;
         stage = grind (arith, nat_tests);
-        note = let none = was_absent in grind (arith, nat_tests);
-        in_use = λ p h z. let d = cases_eq p x in grind (arith, nat_tests);
-        in_ring = λ p i h. let d = cases_eq p x in grind (arith, nat_tests);
+        note = grind (arith, nat_tests, was_absent);
+        in_use = λ p h z. grind (arith, nat_tests, cases_eq);
+        in_ring = λ p i h. grind (arith, nat_tests, cases_eq);
         set_aside = λ p i. (grind (arith, nat_tests), λ z. grind (arith, nat_tests));
         marked = λ p i. (i, λ z. grind (arith, nat_tests));
         aside_stays = λ t y far h.
@@ -83,7 +83,7 @@ module _ {K V : Type 0} {order rank : K → K → Ordering} {bucket : K → ℕ}
             grind (arith, nat_tests);
         aside_value = λ t y far h. refl;
         aside_next = aside;
-        claim_stays = λ t p far h. let a = k.claim_state t p h in grind (arith, nat_tests);
+        claim_stays = λ t p far h. grind (arith, nat_tests, k.claim_state);
         claim_mark = λ t p far h. k.claim_mark t p h;
         claim_next = λ t p far h. claimed t p h;
       }
@@ -149,9 +149,9 @@ module _ {K V : Type 0} {order rank : K → K → Ordering} {bucket : K → ℕ}
         heads = λ b far. grind (arith, nat_tests);
       } in
       entered_kept kind v s x None (changed x x v.next) (changed (bucket (v.want s)) (Some x) v.head) k at
-      (λ p i e. let h = k.rings.no_head p (ap is_in_ring i) in let b = kind.one_bucket (v.key p) (v.want s) e in grind arith)
-      (λ t p h. let i = k.claim_state t p h in grind (arith, nat_tests))
-      (λ t y far h. let i = k.aside_apart t s y h in let j = ap aside_at at in grind (arith, nat_tests))
+      (λ p i e. grind (arith, k.rings.no_head, kind.one_bucket))
+      (λ t p h. grind (arith, nat_tests, k.claim_state))
+      (λ t y far h. let j = ap aside_at at in grind (arith, nat_tests, k.aside_apart))
       (link_alone_keeps_sound kind.ranked bucket (λ a b e. kind.one_bucket a b (kind.same_rank a b e)) (rings_of v) (rings_of w) x k.rings linked
       (ap is_in_ring aside) empty)
 
@@ -181,8 +181,8 @@ module _ {K V : Type 0} {order rank : K → K → Ordering} {bucket : K → ℕ}
       entered_kept kind v s x (Some c) next v.head k at
       (λ p i e. miss_is_right kind.ranked bucket one_bucket (rings_of v) c (v.want s) k.rings (ap is_in_ring c-in) stood arc' p (ap is_in_ring i)
       (kind.rank_same (v.key p) (v.want s) e))
-      (λ t p h. let i = k.claim_state t p h in let m = k.claim_mark t p h in grind (arith, nat_tests))
-      (λ t y far h. let i = k.aside_apart t s y h in let j = ap aside_at at in let a = k.aside_state t y h in grind (arith, nat_tests))
+      (λ t p h. grind (arith, nat_tests, k.claim_state, k.claim_mark))
+      (λ t y far h. let j = ap aside_at at in grind (arith, nat_tests, k.aside_apart, k.aside_state))
       (link_keeps_sound kind.ranked bucket one_bucket (rings_of v) (rings_of w) c x k.rings linked
       (ap is_in_ring c-in) (ap is_in_ring aside) (ap bucket key ∙ sym stood) (ap (λ q. between rank (v.key c) q (v.key (v.next c))) key ∙ arc'))
 

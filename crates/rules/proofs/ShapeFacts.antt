@@ -13,11 +13,7 @@ module _ {K V : Type 0} (st : State K V) (shape : Shape st) where
   -- the first check of every call passes
   pub as_made : is_as_made st ≡ true
   as_made =
-      let m = shape.made in
-      let h = eq-eqb _ _ shape.heads_long in
-      let i = eq-eqb _ _ shape.items_long in
-      let r = eq-eqb _ _ shape.requests_long in
-      grind arith
+      grind (arith, shape.made, eq-eqb)
 
   -- so a session is refused only where the record has none
   pub seat_of : (s : ℕ) → seat st s ≡ ok_or (slice_get st.core.sessions s) NoSession

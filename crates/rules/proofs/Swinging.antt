@@ -119,20 +119,12 @@ module _ {K V : Type 0} {order rank : K → K → Ordering} {bucket : K → ℕ}
           stage = grind (arith, nat_tests);
           note = grind (arith, nat_tests);
           in_use = λ q h z.
-              let i = k.aside_state s q in
-              let e = others q in
-              let d = cases_eq q p in
-              let a = holds_cases (aside_at (v.stage s)) q in
-              grind arith;
+              grind (arith, k.aside_state, others, cases_eq, holds_cases);
           in_ring = λ q h z.
-              let i = k.aside_state s q in
-              let e = others q in
-              let d = cases_eq q p in
-              let a = holds_cases (aside_at (v.stage s)) q in
-              grind arith;
+              grind (arith, k.aside_state, others, cases_eq, holds_cases);
           set_aside = λ q h.
               let far : q ≡ p → ⊥ = λ z. grind arith in
-              let not-mine : aside_at (v.stage s) ≡ Some q → ⊥ = λ z. (let e = entered q z in grind arith) in
+              let not-mine : aside_at (v.stage s) ≡ Some q → ⊥ = λ z. (grind (arith, entered)) in
               (sym (others q far not-mine) ∙ h, not-mine);
           marked = λ q h. (grind (arith, nat_tests), λ z. let mine = ap claim_at at ∙ claim in grind (arith, nat_tests));
           aside_stays = λ t x far h.
@@ -144,9 +136,7 @@ module _ {K V : Type 0} {order rank : K → K → Ordering} {bucket : K → ℕ}
               let a = k.claim_state t q h in
               others q (other_claim t q far h).0 (λ z. let b = k.aside_state s q z in let y : ◌≡◌ {A = ℕ} 0 1 = cc in omega arith) ∙ a;
           claim_mark = λ t q far h.
-              let a = k.claim_mark t q h in
-              let b = (other_claim t q far h).0 in
-              grind (arith, nat_tests);
+              grind (arith, nat_tests, k.claim_mark, (other_claim t q far h).0);
           claim_next = λ t q far h. rest q (other_claim t q far h).1;
         }
 
@@ -173,7 +163,7 @@ module _ {K V : Type 0} {order rank : K → K → Ordering} {bucket : K → ℕ}
       let mine = ap aside_at at in
       swung_ends kind v s c p (Replacing x (c, p)) k at refl may operation.Replace u replaced_states (changed c x v.next)
       (heads_after h (bucket (v.want s)) v.head) value (grind (arith, nat_tests)) (λ y e. grind (arith, nat_tests))
-      (λ q far nor. let d = cases_eq q x in grind (arith, nat_tests)) (λ q far. grind (arith, nat_tests))
+      (λ q far nor. grind (arith, nat_tests, cases_eq)) (λ q far. grind (arith, nat_tests))
 
   -- the sought key has the session's value: x holds them
   replaced_puts : Puts order v replaced_view (v.want s) (Some (v.gift s))
@@ -189,10 +179,7 @@ module _ {K V : Type 0} {order rank : K → K → Ordering} {bucket : K → ℕ}
         values = λ q far i. refl;
         stays = λ q far i. grind (arith, nat_tests);
         here = λ q e i.
-            let only = only_claimed kind v s c p (Replacing x (c, p)) k at refl may q in
-            let d = cases_eq q x in
-            let d2 = cases_eq q p in
-            grind (arith, nat_tests);
+            grind (arith, nat_tests, only_claimed, cases_eq);
         there = λ w e. (x, grind (arith, nat_tests), grind arith);
       }
 
@@ -205,7 +192,7 @@ module _ {K V : Type 0} {order rank : K → K → Ordering} {bucket : K → ℕ}
       let p-in = k.within p (λ z. grind arith) in
       count_one (λ q. is_in_ring (v.state q)) p (ap is_in_ring b) n p-in ∙
       sym (count_more (without (λ q. is_in_ring (v.state q)) p) (λ q. is_in_ring (replaced_view.state q)) x (grind (arith, nat_tests)) (grind (arith, nat_tests))
-      (λ q far. let d = cases_eq q p in grind (arith, nat_tests)) n x-in)
+      (λ q far. grind (arith, nat_tests, cases_eq)) n x-in)
 
   -- the plain table agrees
   replaced_agrees : Agrees order (done_by order s operation.Replace v plain) n replaced_view
@@ -282,9 +269,7 @@ module _ {K V : Type 0} {order rank : K → K → Ordering} {bucket : K → ℕ}
         values = λ q far i. refl;
         stays = λ q far i. grind (arith, nat_tests);
         here = λ q e i.
-            let only = only_claimed kind v s c p (Removing (c, p)) k at refl may q in
-            let d = cases_eq q p in
-            grind (arith, nat_tests);
+            grind (arith, nat_tests, only_claimed, cases_eq);
         there = λ w e. absurd cc;
       }
 
