@@ -1,7 +1,7 @@
 ghost use Rattle.std.specs.Prelude.{◌≡◌, is_ok};
 ghost use Rattle.lines.specs.Boards.{message_of};
 ghost use Rattle.lines.specs.Words.{operation as word_of};
-ghost use Rattle.text.specs.Kept.{kept, added};
+ghost use Rattle.text.specs.Kept.{added};
 ghost use Rattle.explain.specs.Explained.{place_text, task_text, action_text, call_text, message_text, name_fault_text, cause_text, reason_text, fault_text, line_text};
 
 use crate::show::Show;
@@ -12,7 +12,10 @@ use keys::key::Key;
 use keys::name::NameFault;
 use lines::fault::{Cause, LineFault};
 use lines::message::{Message, read_line};
-use text::text::Text;
+use text::Text;
+
+// What is said of one line.
+pub type Explanation = Text<256>;
 
 // The head bits by which keys are placed.
 const HEAD_BITS: u8 = 4;
@@ -32,19 +35,19 @@ fn operation_word(operation: Operation) -> &'static [u8]
 }
 
 // Where a key with this hash lies.
-fn explain_place(hash: u16, out: &mut Text)
-    ensures { kept out.new ≡ added 256 (kept out.old) (place_text hash) }
+fn explain_place(hash: u16, out: &mut Explanation)
+    ensures { out.new ≡ added 256 out.old (place_text hash) }
 {
     out.push_bytes(b"hash ");
-    out.push_number(hash as u64);
+    out.push_number(hash);
     out.push_bytes(b", bucket ");
-    out.push_number(bucket_of(HEAD_BITS, hash) as u64);
+    out.push_number(bucket_of(HEAD_BITS, hash));
     out.push_bytes(b", tag ");
-    out.push_number(tag_of(HEAD_BITS, hash) as u64);
+    out.push_number(tag_of(HEAD_BITS, hash));
 }
 
-fn explain_task<K: Key + Show, V: Show>(task: Task<K, V>, out: &mut Text)
-    ensures { kept out.new ≡ added 256 (kept out.old) (task_text K.Show.shown V.Show.shown K.Key.digest task) }
+fn explain_task<K: Key + Show, V: Show>(task: Task<K, V>, out: &mut Explanation)
+    ensures { out.new ≡ added 256 out.old (task_text K.Show.shown V.Show.shown K.Key.digest task) }
 {
     out.push_bytes(b" begins ");
     out.push_bytes(operation_word(task.operation));
@@ -56,8 +59,8 @@ fn explain_task<K: Key + Show, V: Show>(task: Task<K, V>, out: &mut Text)
     explain_place(task.key.hash(), out);
 }
 
-fn explain_action<K: Key + Show, V: Show>(action: Action<K, V>, out: &mut Text)
-    ensures { kept out.new ≡ added 256 (kept out.old) (action_text K.Show.shown V.Show.shown K.Key.digest action) }
+fn explain_action<K: Key + Show, V: Show>(action: Action<K, V>, out: &mut Explanation)
+    ensures { out.new ≡ added 256 out.old (action_text K.Show.shown V.Show.shown K.Key.digest action) }
 {
     match action {
         Action::Begin(task) => explain_task(task, out),
@@ -67,16 +70,16 @@ fn explain_action<K: Key + Show, V: Show>(action: Action<K, V>, out: &mut Text)
     }
 }
 
-fn explain_call<K: Key + Show, V: Show>(call: Call<K, V>, out: &mut Text)
-    ensures { kept out.new ≡ added 256 (kept out.old) (call_text K.Show.shown V.Show.shown K.Key.digest call) }
+fn explain_call<K: Key + Show, V: Show>(call: Call<K, V>, out: &mut Explanation)
+    ensures { out.new ≡ added 256 out.old (call_text K.Show.shown V.Show.shown K.Key.digest call) }
 {
     out.push_bytes(b"session ");
-    out.push_number(call.session as u64);
+    out.push_number(call.session);
     explain_action(call.action, out);
 }
 
-fn explain_message(message: Message, out: &mut Text)
-    ensures { kept out.new ≡ added 256 (kept out.old) (message_text message) }
+fn explain_message(message: Message, out: &mut Explanation)
+    ensures { out.new ≡ added 256 out.old (message_text message) }
 {
     match message {
         Message::Berths(call) => {
@@ -121,24 +124,24 @@ fn reason_words(fault: LineFault) -> &'static [u8]
     }
 }
 
-fn explain_fault(fault: LineFault, out: &mut Text)
-    ensures { kept out.new ≡ added 256 (kept out.old) (fault_text fault) }
+fn explain_fault(fault: LineFault, out: &mut Explanation)
+    ensures { out.new ≡ added 256 out.old (fault_text fault) }
 {
     let place = fault.place();
     out.push_bytes(b"no,");
-    out.push_number(fault.number() as u64);
+    out.push_number(fault.number());
     out.push_bytes(b",");
-    out.push_number(place.field as u64);
+    out.push_number(place.field);
     out.push_bytes(b",");
-    out.push_number(place.byte as u64);
+    out.push_number(place.byte);
     out.push_bytes(b": ");
     out.push_bytes(reason_words(fault));
 }
 
 // Writes what a line asks for, or why it is refused, and says whether it was accepted.
-pub fn explain_line(line: &[u8], out: &mut Text) -> bool
+pub fn explain_line(line: &[u8], out: &mut Explanation) -> bool
     ensures accepted { result ≡ is_ok (message_of line.now) }
-    ensures text { kept out.new ≡ added 256 (kept out.old) (line_text line.now) }
+    ensures text { out.new ≡ added 256 out.old (line_text line.now) }
 {
     match read_line(line) {
         Ok(message) => {

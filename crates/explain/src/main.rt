@@ -1,20 +1,19 @@
 // Says of each line of standard input what it asks for, or why it is refused.
-#![tactic(auto)]
+#![tactic(auto, using(text::proofs::Adding::added_twice))]
 
 mod explanation;
 mod show;
 mod tally;
 
-use explanation::explain_line;
+use explanation::{Explanation, explain_line};
 use std::io;
 use std::io::{BufWriter, Read, Write};
 use tally::Tally;
-use text::line::Line;
-use text::text::Text;
+use text::Line;
 
 // Explains one whole line, and counts it.
 fn print_line<W: Write>(out: &mut W, line: &[u8], tally: &mut Tally) -> io::Result<()> {
-    let mut text = Text::new();
+    let mut text = Explanation::new();
     let accepted = explain_line(line, &mut text);
     tally.count(accepted);
     text.push(b'\n');
@@ -50,7 +49,7 @@ fn main(rt: HostRuntime) -> io::Result<()> {
     if !line.as_bytes().is_empty() {
         print_line(&mut out, line.as_bytes(), &mut tally)?;
     }
-    let mut text = Text::new();
+    let mut text = Explanation::new();
     tally.explain(&mut text);
     text.push(b'\n');
     out.write_all(text.as_bytes())?;

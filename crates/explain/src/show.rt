@@ -1,73 +1,66 @@
 ghost use Rattle.std.specs.Prelude.{◌≡◌, ℕ, ◌<◌, List};
 ghost use Rattle.std.specs.List.{flat_map};
-ghost use Rattle.text.specs.Kept.{kept, added};
+ghost use Rattle.text.specs.Kept.{added};
 ghost use Rattle.explain.specs.Explained.{berth_text, sailing_text, name_text, berth_number_text, byte_text, hex_digit};
 
+use crate::explanation::Explanation;
 use keys::berth::Berth;
 use keys::name::Name;
 use lines::berths::Sailing;
-use text::text::Text;
 
 // A key or a value that can be written in words.
 pub trait Show: Copy {
     ghost shown: { Self → List ℕ };
 
-    fn show(self, out: &mut Text)
-        ensures { kept out.new ≡ added 256 (kept out.old) (shown self) };
+    fn show(self, out: &mut Explanation)
+        ensures { out.new ≡ added 256 out.old (shown self) };
 }
 
 impl Show for Berth {
     ghost shown = { berth_text };
 
-    fn show(self, out: &mut Text) {
+    fn show(self, out: &mut Explanation) {
         out.push_bytes(b"harbour ");
-        out.push_number(self.harbour as u64);
+        out.push_number(self.harbour);
         out.push_bytes(b", berth ");
-        out.push_number(self.berth as u64);
+        out.push_number(self.berth);
     }
 }
 
 impl Show for Sailing {
     ghost shown = { sailing_text };
 
-    fn show(self, out: &mut Text) {
+    fn show(self, out: &mut Explanation) {
         out.push_bytes(b"ship ");
-        out.push_number(self.ship as u64);
+        out.push_number(self.ship);
         out.push_bytes(b", minute ");
-        out.push_number(self.minute as u64);
+        out.push_number(self.minute);
     }
 }
 
 impl Show for u16 {
     ghost shown = { berth_number_text };
 
-    fn show(self, out: &mut Text) {
+    fn show(self, out: &mut Explanation) {
         out.push_bytes(b"berth ");
-        out.push_number(self as u64);
+        out.push_number(self);
     }
 }
 
 impl Show for Name {
     ghost shown = { name_text };
 
-    fn show(self, out: &mut Text) {
+    fn show(self, out: &mut Explanation) {
         out.push_bytes(b"name ");
-        show_bytes(self.used(), out);
-    }
-}
-
-// Each byte as it is shown.
-fn show_bytes(bytes: &[u8], out: &mut Text)
-    ensures { kept out.new ≡ added 256 (kept out.old) (flat_map byte_text bytes.now) }
-{
-    for b in bytes {
-        show_byte(*b, out);
+        for byte in self.used() {
+            show_byte(*byte, out);
+        }
     }
 }
 
 // The byte itself, or \xHH if it is not printable or is a backslash.
-fn show_byte(byte: u8, out: &mut Text)
-    ensures { kept out.new ≡ added 256 (kept out.old) (byte_text byte) }
+fn show_byte(byte: u8, out: &mut Explanation)
+    ensures { out.new ≡ added 256 out.old (byte_text byte) }
 {
     if byte >= 32 && byte <= 126 && byte != b'\\' {
         out.push(byte);

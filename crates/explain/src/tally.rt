@@ -1,8 +1,8 @@
-ghost use Rattle.std.specs.Prelude.{◌≡◌};
-ghost use Rattle.text.specs.Kept.{kept, added};
-ghost use Rattle.explain.specs.Tallies.{tally, counted, tally_text};
+ghost use Rattle.std.specs.Prelude.{◌≡◌, ◌+◌};
+ghost use Rattle.text.specs.Kept.{added};
+ghost use Rattle.explain.specs.Tallies.{tally, capped, counted, tally_text};
 
-use text::text::Text;
+use crate::explanation::Explanation;
 
 // How many lines were accepted and refused.
 #[derive(Clone, Copy)]
@@ -32,10 +32,17 @@ impl Tally {
         }
     }
 
-    pub fn explain(self, out: &mut Text)
-        ensures { kept out.new ≡ added 256 (kept out.old) (tally_text self) }
+    // How many lines there were; a full count stays as it is.
+    fn total(self) -> u64
+        ensures { result ≡ capped (self.accepted + self.refused) }
     {
-        out.push_number(self.accepted.saturating_add(self.refused));
+        self.accepted.saturating_add(self.refused)
+    }
+
+    pub fn explain(self, out: &mut Explanation)
+        ensures { out.new ≡ added 256 out.old (tally_text self) }
+    {
+        out.push_number(self.total());
         out.push_bytes(b" lines: ");
         out.push_number(self.accepted);
         out.push_bytes(b" accepted, ");
