@@ -1,2 +1,3 @@
 pub mod Explained
+pub mod Reports
 pub mod Tallies

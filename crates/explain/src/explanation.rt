@@ -14,9 +14,6 @@ use lines::fault::{Cause, LineFault};
 use lines::message::{Message, read_line};
 use text::Text;
 
-// What is said of one line.
-pub type Explanation = Text<256>;
-
 // The head bits by which keys are placed.
 const HEAD_BITS: u8 = 4;
 
@@ -35,8 +32,8 @@ fn operation_word(operation: Operation) -> &'static [u8]
 }
 
 // Where a key with this hash lies.
-fn explain_place(hash: u16, out: &mut Explanation)
-    ensures { out.new ≡ added 256 out.old (place_text hash) }
+fn explain_place<const N: usize>(hash: u16, out: &mut Text<N>)
+    ensures { out.new ≡ added N out.old (place_text hash) }
 {
     out.push_bytes(b"hash ");
     out.push_number(hash);
@@ -46,8 +43,8 @@ fn explain_place(hash: u16, out: &mut Explanation)
     out.push_number(tag_of(HEAD_BITS, hash));
 }
 
-fn explain_task<K: Key + Show, V: Show>(task: Task<K, V>, out: &mut Explanation)
-    ensures { out.new ≡ added 256 out.old (task_text K.Show.shown V.Show.shown K.Key.digest task) }
+fn explain_task<K: Key + Show<N>, V: Show<N>, const N: usize>(task: Task<K, V>, out: &mut Text<N>)
+    ensures { out.new ≡ added N out.old (task_text K.Show.shown V.Show.shown K.Key.digest task) }
 {
     out.push_bytes(b" begins ");
     out.push_bytes(operation_word(task.operation));
@@ -59,8 +56,11 @@ fn explain_task<K: Key + Show, V: Show>(task: Task<K, V>, out: &mut Explanation)
     explain_place(task.key.hash(), out);
 }
 
-fn explain_action<K: Key + Show, V: Show>(action: Action<K, V>, out: &mut Explanation)
-    ensures { out.new ≡ added 256 out.old (action_text K.Show.shown V.Show.shown K.Key.digest action) }
+fn explain_action<K: Key + Show<N>, V: Show<N>, const N: usize>(
+    action: Action<K, V>,
+    out: &mut Text<N>,
+)
+    ensures { out.new ≡ added N out.old (action_text K.Show.shown V.Show.shown K.Key.digest action) }
 {
     match action {
         Action::Begin(task) => explain_task(task, out),
@@ -70,16 +70,16 @@ fn explain_action<K: Key + Show, V: Show>(action: Action<K, V>, out: &mut Explan
     }
 }
 
-fn explain_call<K: Key + Show, V: Show>(call: Call<K, V>, out: &mut Explanation)
-    ensures { out.new ≡ added 256 out.old (call_text K.Show.shown V.Show.shown K.Key.digest call) }
+fn explain_call<K: Key + Show<N>, V: Show<N>, const N: usize>(call: Call<K, V>, out: &mut Text<N>)
+    ensures { out.new ≡ added N out.old (call_text K.Show.shown V.Show.shown K.Key.digest call) }
 {
     out.push_bytes(b"session ");
     out.push_number(call.session);
     explain_action(call.action, out);
 }
 
-fn explain_message(message: Message, out: &mut Explanation)
-    ensures { out.new ≡ added 256 out.old (message_text message) }
+fn explain_message<const N: usize>(message: Message, out: &mut Text<N>)
+    ensures { out.new ≡ added N out.old (message_text message) }
 {
     match message {
         Message::Berths(call) => {
@@ -124,8 +124,8 @@ fn reason_words(fault: LineFault) -> &'static [u8]
     }
 }
 
-fn explain_fault(fault: LineFault, out: &mut Explanation)
-    ensures { out.new ≡ added 256 out.old (fault_text fault) }
+fn explain_fault<const N: usize>(fault: LineFault, out: &mut Text<N>)
+    ensures { out.new ≡ added N out.old (fault_text fault) }
 {
     let place = fault.place();
     out.push_bytes(b"no,");
@@ -139,9 +139,9 @@ fn explain_fault(fault: LineFault, out: &mut Explanation)
 }
 
 // Writes what a line asks for, or why it is refused, and says whether it was accepted.
-pub fn explain_line(line: &[u8], out: &mut Explanation) -> bool
+pub fn explain_line<const N: usize>(line: &[u8], out: &mut Text<N>) -> bool
     ensures accepted { result ≡ is_ok (message_of line.now) }
-    ensures text { out.new ≡ added 256 out.old (line_text line.now) }
+    ensures text { out.new ≡ added N out.old (line_text line.now) }
 {
     match read_line(line) {
         Ok(message) => {

@@ -2,56 +2,43 @@
 #![tactic(auto, using(text::proofs::Adding::added_twice))]
 
 mod explanation;
+mod report;
 mod show;
 mod tally;
 
-use explanation::{Explanation, explain_line};
+use memchr::memchr;
+use report::Report;
 use std::io;
-use std::io::{BufWriter, Read, Write};
-use tally::Tally;
-use text::Line;
-
-// Explains one whole line, and counts it.
-fn print_line<W: Write>(out: &mut W, line: &[u8], tally: &mut Tally) -> io::Result<()> {
-    let mut text = Explanation::new();
-    let accepted = explain_line(line, &mut text);
-    tally.count(accepted);
-    text.push(b'\n');
-    out.write_all(text.as_bytes())
-}
+use std::io::{Read, Write};
 
 // Explains each line that ends in these bytes; what follows the last one is kept.
-fn feed<W: Write>(out: &mut W, line: &mut Line, tally: &mut Tally, bytes: &[u8]) -> io::Result<()> {
-    for b in bytes {
-        if *b == b'\n' {
-            print_line(out, line.as_bytes(), tally)?;
-            line.clear();
-        } else {
-            line.push(*b);
+fn feed<W: Write>(report: &mut Report, bytes: &[u8], out: &mut W) -> io::Result<()> {
+    let mut rest = bytes;
+    while let Some(end) = memchr(b'\n', rest) {
+        let (part, after) = rest.split_at(end);
+        report.end_line(part);
+        rest = &after[1..];
+        if report.is_full() {
+            out.write_all(report.text())?;
+            report.clear();
         }
     }
+    report.begin_line(rest);
     Ok(())
 }
 
 fn main(rt: HostRuntime) -> io::Result<()> {
     let mut input = rt.stdin();
-    let mut out = BufWriter::new(rt.alloc(), rt.stdout())?;
-    let mut chunk = [0u8; 8192];
-    let mut line = Line::new();
-    let mut tally = Tally::new();
+    let mut out = rt.stdout();
+    let mut chunk = [0u8; 65536];
+    let mut report = Report::new();
     for _ in 0..u64::MAX {
         let count = input.read(&mut chunk)?;
         if count == 0 {
             break;
         }
-        feed(&mut out, &mut line, &mut tally, &chunk[0..count])?;
+        feed(&mut report, &chunk[..count], &mut out)?;
     }
-    if !line.as_bytes().is_empty() {
-        print_line(&mut out, line.as_bytes(), &mut tally)?;
-    }
-    let mut text = Explanation::new();
-    tally.explain(&mut text);
-    text.push(b'\n');
-    out.write_all(text.as_bytes())?;
-    out.flush()
+    report.finish();
+    out.write_all(report.text())
 }

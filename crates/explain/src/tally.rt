@@ -1,8 +1,8 @@
-ghost use Rattle.std.specs.Prelude.{◌≡◌, ◌+◌};
+ghost use Rattle.std.specs.Prelude.{◌≡◌};
 ghost use Rattle.text.specs.Kept.{added};
-ghost use Rattle.explain.specs.Tallies.{tally, capped, counted, tally_text};
+ghost use Rattle.explain.specs.Tallies.{tally, counted, tally_text};
 
-use crate::explanation::Explanation;
+use text::Text;
 
 // How many lines were accepted and refused.
 #[derive(Clone, Copy)]
@@ -32,17 +32,10 @@ impl Tally {
         }
     }
 
-    // How many lines there were; a full count stays as it is.
-    fn total(self) -> u64
-        ensures { result ≡ capped (self.accepted + self.refused) }
+    pub fn explain<const N: usize>(self, out: &mut Text<N>)
+        ensures { out.new ≡ added N out.old (tally_text self) }
     {
-        self.accepted.saturating_add(self.refused)
-    }
-
-    pub fn explain(self, out: &mut Explanation)
-        ensures { out.new ≡ added 256 out.old (tally_text self) }
-    {
-        out.push_number(self.total());
+        out.push_number(self.accepted.saturating_add(self.refused));
         out.push_bytes(b" lines: ");
         out.push_number(self.accepted);
         out.push_bytes(b" accepted, ");

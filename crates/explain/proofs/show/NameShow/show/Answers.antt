@@ -10,5 +10,5 @@ shown_more : (bs : List ℕ) (i : ℕ) → i < length bs → flat_map byte_text 
 shown_more bs i h = ap (flat_map byte_text) (take_more bs i 0 h) ∙ sym (flat_map_more byte_text [] (take i bs) (get_or bs i 0))
 
 pub loop-byte-preserved : goal.loop-byte-preserved
-loop-byte-preserved c =
+loop-byte-preserved g c =
     rw (c.show_byte.ensures, c.loop-byte.invariant, added_twice, shown_more c.used-byte-items.result.now c.loop-byte.byte-index c.loop-byte-test.true)

@@ -5,4 +5,4 @@ use Rattle.explain.specs.Explained.{byte_text}
 use Rattle.explain.proofs.show.NameShow.show.Given as goal
 
 abbrev pub invariant-loop-byte : goal.invariant-loop-byte
-invariant-loop-byte l = l.out ≡ added 256 l.fn.out (codes "name " ++ flat_map byte_text (take l.byte-index l.byte-items))
+invariant-loop-byte g l = l.out ≡ added g.row.N l.fn.out (codes "name " ++ flat_map byte_text (take l.byte-index l.byte-items))
