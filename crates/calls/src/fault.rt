@@ -1,29 +1,29 @@
 ghost use Rattle.std.specs.Prelude.{◌≡◌};
 ghost use Rattle.calls.specs.Faults.{index_number};
 
-// Why a call on an index is refused.
+// Why a call on an index is refused. Each refusal has its number.
 #[derive(Clone, Copy, Debug, PartialEq, Eq)]
 pub enum IndexFault {
     // making: more than 8 head bits
-    HeadBits,
+    HeadBits = 7,
     // making: a table has no length that an index can have
-    TableLengths,
+    TableLengths = 8,
     // the tables do not have the lengths of the making, or the record is blank
-    NotAsMade,
+    NotAsMade = 9,
     // the session number is above 15
-    NoSession,
+    NoSession = 10,
     // begin: the session is not idle
-    NotIdle,
+    NotIdle = 11,
     // begin of insert or replace: no place is free
-    NoPlace,
+    NoPlace = 12,
     // turn, collect and abandon: the session is idle
-    Idle,
+    Idle = 13,
     // turn: the session has ended
-    Ended,
+    Ended = 14,
     // collect: the session is under way
-    UnderWay,
+    UnderWay = 15,
     // turn: a head or a next that is read is no place of the table
-    OutsideTable,
+    OutsideTable = 16,
 }
 
 impl IndexFault {
@@ -31,17 +31,6 @@ impl IndexFault {
     pub fn number(self) -> u8
         ensures { result ≡ index_number self }
     {
-        match self {
-            IndexFault::HeadBits => 7,
-            IndexFault::TableLengths => 8,
-            IndexFault::NotAsMade => 9,
-            IndexFault::NoSession => 10,
-            IndexFault::NotIdle => 11,
-            IndexFault::NoPlace => 12,
-            IndexFault::Idle => 13,
-            IndexFault::Ended => 14,
-            IndexFault::UnderWay => 15,
-            IndexFault::OutsideTable => 16,
-        }
+        self as u8
     }
 }

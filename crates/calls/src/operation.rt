@@ -1,5 +1,5 @@
 ghost use Rattle.std.specs.Prelude.{◌≡◌};
-ghost use Rattle.calls.specs.Operations.{leaves, written};
+ghost use Rattle.calls.specs.Operations.{leaves};
 
 // The six operations on a table from keys to values.
 #[derive(Clone, Copy, Debug, PartialEq, Eq)]
@@ -19,25 +19,10 @@ impl Operation {
         ensures { result ≡ leaves self value before }
     {
         match self {
-            Operation::Find => before,
-            Operation::Point => before,
+            Operation::Find | Operation::Point => before,
+            Operation::Insert => before.or(Some(value)),
+            Operation::Write | Operation::Replace => before.and(Some(value)),
             Operation::Remove => None,
-            Operation::Insert => match before {
-                None => Some(value),
-                Some(old) => Some(old),
-            },
-            Operation::Write => written(value, before),
-            Operation::Replace => written(value, before),
         }
-    }
-}
-
-// A present key takes the value; an absent one stays so.
-fn written<V: Copy>(value: V, before: Option<V>) -> Option<V>
-    ensures { result ≡ written value before }
-{
-    match before {
-        None => None,
-        Some(_) => Some(value),
     }
 }
