@@ -1,6 +1,6 @@
 -- The fields of a line and what their bytes say.
 use Rattle.std.specs.Prelude.{ℕ, ◌+◌, ◌-◌, ◌*◌, Bool, true, cond, not, ◌&&◌, List, [], ◌∷◌, length, take, drop, Ok, Err, fold, Result, ◌==◌, nat_le, nat_lt}
-use Rattle.std.specs.List.{prefix_len}
+use Rattle.std.specs.List.{list_all, prefix_len}
 use Rattle.lines.specs.declared.fault.Cause.{Cause}
 use Rattle.lines.specs.declared.fault.Cause.TheVariants.{Strange, Large}
 
@@ -21,8 +21,7 @@ abbrev pub is_digit : ℕ → Bool
 is_digit b = nat_le 48 b && nat_le b 57
 
 abbrev pub all_digits : List ℕ → Bool
-all_digits [] = true
-all_digits (b ∷ bs) = is_digit b && all_digits bs
+all_digits = list_all is_digit
 
 -- the number that digits write
 abbrev pub value_of : List ℕ → ℕ

@@ -23,7 +23,7 @@ impl Board for BerthBoard {
 
     const BEGIN_FIELDS: usize = 8;
 
-    ghost begin_fields = { 8 };
+    ghost BEGIN_FIELDS = { 8 };
 
     ghost key_fields = { 2 };
 
@@ -35,19 +35,15 @@ impl Board for BerthBoard {
 
     ghost counted = { refl };
 
-    fn field_count() -> usize {
-        Self::BEGIN_FIELDS
-    }
-
     fn read_key(from: &mut Reader<'_>) -> Result<Berth, FieldFault> {
-        let harbour = from.number(65535)? as u16;
-        let berth = from.number(65535)? as u16;
+        let harbour = from.short_number(u16::MAX)?;
+        let berth = from.short_number(u16::MAX)?;
         Ok(Berth { harbour, berth })
     }
 
     fn read_value(from: &mut Reader<'_>) -> Result<Sailing, FieldFault> {
-        let ship = from.number(4294967295)?;
-        let minute = from.number(1439)? as u16;
+        let ship = from.number(u32::MAX)?;
+        let minute = from.short_number(1439)?;
         Ok(Sailing { ship, minute })
     }
 }

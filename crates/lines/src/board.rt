@@ -13,9 +13,9 @@ pub trait Board {
 
     const BEGIN_FIELDS: usize;
 
-    // the same number, and how many of the fields are the key's and the value's
-    ghost begin_fields: { ℕ };
+    ghost BEGIN_FIELDS: { ℕ };
 
+    // how many of the fields are the key's and the value's
     ghost key_fields: { ℕ };
 
     ghost value_fields: { ℕ };
@@ -23,10 +23,6 @@ pub trait Board {
     ghost key_in: { Reading Self.Key };
 
     ghost value_in: { Reading Self.Value };
-
-    // BEGIN_FIELDS, tied here to `begin_fields`, which clauses name.
-    fn field_count() -> usize
-        ensures { result ≡ begin_fields };
 
     fn read_key(from: &mut Reader<'_>) -> Result<Self::Key, FieldFault>
         ensures value { (result, from.new.next) ≡ key_in (text from.old) from.old.next }
@@ -39,5 +35,5 @@ pub trait Board {
         ensures count { OnOk result (from.new.next.field ≡ from.old.next.field + value_fields) };
 
     // The letter, the verb, the session and the operation come before the key.
-    ghost counted: { begin_fields ≡ 4 + key_fields + value_fields };
+    ghost counted: { BEGIN_FIELDS ≡ 4 + key_fields + value_fields };
 }

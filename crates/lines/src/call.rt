@@ -11,13 +11,11 @@ use calls::operation::Operation;
 
 // How many fields a line with this verb has.
 fn wanted_fields<B: Board>(verb: Verb) -> usize
-    ensures { result ≡ wanted_fields B.Board.begin_fields verb }
+    ensures { result ≡ wanted_fields B.BEGIN_FIELDS verb }
 {
     match verb {
-        Verb::Begin => B::field_count(),
-        Verb::Turn => 3,
-        Verb::Collect => 3,
-        Verb::Abandon => 3,
+        Verb::Begin => B::BEGIN_FIELDS,
+        Verb::Turn | Verb::Collect | Verb::Abandon => 3,
     }
 }
 
@@ -26,7 +24,7 @@ fn read_task<B: Board>(from: &mut Reader<'_>) -> Result<Task<B::Key, B::Value>, 
     requires { from.old.next.field ≡ 4 }
     ensures value { (result, from.new.next) ≡ task_in B.Board.key_in B.Board.value_in (text from.old) from.old.next }
     ensures line { text from.new ≡ text from.old }
-    ensures count { OnOk result (from.new.next.field ≡ B.Board.begin_fields + 1) }
+    ensures count { OnOk result (from.new.next.field ≡ B.BEGIN_FIELDS + 1) }
 {
     let operation = from.word::<Operation>()?;
     let key = B::read_key(from)?;
@@ -46,7 +44,7 @@ fn read_action<B: Board>(
     requires { from.old.next.field ≡ 4 }
     ensures value { (result, from.new.next) ≡ action_in B.Board.key_in B.Board.value_in verb (text from.old) from.old.next }
     ensures line { text from.new ≡ text from.old }
-    ensures count { OnOk result (from.new.next.field ≡ wanted_fields B.Board.begin_fields verb + 1) }
+    ensures count { OnOk result (from.new.next.field ≡ wanted_fields B.BEGIN_FIELDS verb + 1) }
 {
     match verb {
         Verb::Begin => Ok(Action::Begin(read_task::<B>(from)?)),

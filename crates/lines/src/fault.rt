@@ -1,5 +1,5 @@
 ghost use Rattle.std.specs.Prelude.{◌≡◌};
-ghost use Rattle.lines.specs.Faults.{cause_number, line_number, line_place};
+ghost use Rattle.lines.specs.Faults.{fault, cause_number, line_number, line_place};
 ghost use Rattle.lines.specs.declared.fault.Cause.TheVariants.{Name};
 ghost use Rattle.lines.specs.declared.fault.LineFault.TheVariants.{Field};
 
@@ -58,6 +58,13 @@ impl From<FieldFault> for LineFault {
 }
 
 impl Cause {
+    // This fault of the field at a place.
+    pub(crate) fn at(self, place: Place) -> FieldFault
+        ensures { result ≡ fault self place }
+    {
+        FieldFault { cause: self, place }
+    }
+
     // The refusal's number.
     pub fn number(self) -> u8
         ensures { result ≡ cause_number self }

@@ -1,7 +1,6 @@
 ghost use Rattle.std.specs.Prelude.{◌≡◌, ◌≤◌, length, IfOk};
-ghost use Rattle.lines.specs.Faults.{fault};
 ghost use Rattle.lines.specs.Fields.{field_end};
-ghost use Rattle.lines.specs.Readings.{seen, number_seen, word_seen, name_seen};
+ghost use Rattle.lines.specs.Readings.{seen, placed, number_seen, word_seen, name_seen};
 
 use crate::fault::{Cause, FieldFault};
 use crate::number::number;
@@ -15,22 +14,16 @@ pub(crate) fn field_end(line: &[u8], at: usize) -> usize
     ensures value { result ≡ field_end line.now at }
     ensures bound { (at ≤ result) × (result ≤ length line.now) }
 {
-    let mut i = at;
-    while i < line.len() && line[i] != b',' {
-        i += 1;
-    }
-    i
+    let rest = &line[at..];
+    at + rest.iter().position(|b| *b == b',').unwrap_or(rest.len())
 }
 
 impl<'a> Part<'a> {
-    // The fault of this part, whatever is wrong with it.
-    fn refused(self, cause: Cause) -> FieldFault
-        ensures { result ≡ fault cause self.entry.place }
+    // What the bytes of this part say, with its place at a fault.
+    fn placed<T>(self, outcome: Result<T, Cause>) -> Result<T, FieldFault>
+        ensures { result ≡ placed self.entry.place outcome }
     {
-        FieldFault {
-            cause,
-            place: self.place,
-        }
+        outcome.map_err(|cause| cause.at(self.place))
     }
 }
 
@@ -41,12 +34,8 @@ impl<'a> Field<'a> {
         ensures bound { IfOk result (λ n. n ≤ limit) }
     {
         match self {
-            Field::Word(part) => Err(part.refused(Cause::Strange)),
-            Field::Name(part) => Err(part.refused(Cause::Strange)),
-            Field::Digits(part) => match number(part.bytes, limit) {
-                Ok(n) => Ok(n),
-                Err(cause) => Err(part.refused(cause)),
-            },
+            Field::Digits(part) => part.placed(number(part.bytes, limit)),
+            Field::Word(part) | Field::Name(part) => Err(Cause::Strange.at(part.place)),
         }
     }
 
@@ -55,12 +44,8 @@ impl<'a> Field<'a> {
         ensures { result ≡ word_seen W.Word.words (seen self.entry) }
     {
         match self {
-            Field::Digits(part) => Err(part.refused(Cause::Strange)),
-            Field::Name(part) => Err(part.refused(Cause::Strange)),
-            Field::Word(part) => match W::read(part.bytes) {
-                Some(word) => Ok(word),
-                None => Err(part.refused(Cause::Strange)),
-            },
+            Field::Word(part) => part.placed(W::read(part.bytes).ok_or(Cause::Strange)),
+            Field::Digits(part) | Field::Name(part) => Err(Cause::Strange.at(part.place)),
         }
     }
 
@@ -69,12 +54,8 @@ impl<'a> Field<'a> {
         ensures { result ≡ name_seen (seen self.entry) }
     {
         match self {
-            Field::Word(part) => Err(part.refused(Cause::Strange)),
-            Field::Digits(part) => Err(part.refused(Cause::Strange)),
-            Field::Name(part) => match Name::new(part.bytes) {
-                Ok(name) => Ok(name),
-                Err(fault) => Err(part.refused(fault.into())),
-            },
+            Field::Name(part) => part.placed(Name::new(part.bytes).map_err(Cause::from)),
+            Field::Word(part) | Field::Digits(part) => Err(Cause::Strange.at(part.place)),
         }
     }
 }

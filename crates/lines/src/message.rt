@@ -2,10 +2,11 @@ ghost use Rattle.std.specs.Prelude.{◌≡◌};
 ghost use Rattle.lines.specs.Boards.{message_in, message_by, message_of};
 ghost use Rattle.lines.specs.Readings.{text};
 
-use crate::berths::Sailing;
+use crate::berths::{BerthBoard, Sailing};
 use crate::call::read_call;
 use crate::fault::{FieldFault, LineFault};
 use crate::reader::Reader;
+use crate::ships::ShipBoard;
 use crate::word::Letter;
 use calls::call::Call;
 use keys::berth::Berth;
@@ -26,8 +27,8 @@ fn read_message(from: &mut Reader<'_>) -> Result<Message, FieldFault>
     ensures value { (result, from.new.next) ≡ message_in (text from.old) from.old.next }
 {
     match from.word::<Letter>()? {
-        Letter::B => Ok(Message::Berths(read_call::<crate::berths::BerthBoard>(from)?)),
-        Letter::S => Ok(Message::Ships(read_call::<crate::ships::ShipBoard>(from)?)),
+        Letter::B => Ok(Message::Berths(read_call::<BerthBoard>(from)?)),
+        Letter::S => Ok(Message::Ships(read_call::<ShipBoard>(from)?)),
     }
 }
 
@@ -35,10 +36,9 @@ fn read_message(from: &mut Reader<'_>) -> Result<Message, FieldFault>
 pub fn read_line(line: &[u8]) -> Result<Message, LineFault>
     ensures { result ≡ message_of line.now }
 {
-    if line.len() == 0 || line.len() > MAX_LINE {
+    if line.is_empty() || line.len() > MAX_LINE {
         return Err(LineFault::Length);
     }
     let mut reader = Reader::new(line);
-    let message = read_message(&mut reader)?;
-    Ok(message)
+    Ok(read_message(&mut reader)?)
 }

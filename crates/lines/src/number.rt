@@ -24,12 +24,7 @@ pub fn number(field: &[u8], limit: u32) -> Result<u32, Cause>
 fn all_digits(field: &[u8]) -> bool
     ensures { result ≡ all_digits field.now }
 {
-    for b in field {
-        if *b < b'0' || *b > b'9' {
-            return false;
-        }
-    }
-    true
+    field.iter().all(|b| b.is_ascii_digit())
 }
 
 // The number that at most ten digits write.

@@ -27,20 +27,14 @@ impl<'a> Reader<'a> {
         let line = self.line;
         let place = self.next;
         if place.byte > line.len() {
-            return Err(FieldFault {
-                cause: Cause::Missing,
-                place: Place {
-                    field: place.field,
-                    byte: line.len(),
-                },
-            });
+            return Err(Cause::Missing.at(Place {
+                byte: line.len(),
+                ..place
+            }));
         }
         let end = field_end(line, place.byte);
         if end == place.byte {
-            return Err(FieldFault {
-                cause: Cause::Missing,
-                place,
-            });
+            return Err(Cause::Missing.at(place));
         }
         self.next = Place {
             field: place.field + 1,
@@ -65,6 +59,15 @@ impl<'a> Reader<'a> {
         ensures line { text self.new ≡ text self.old }
     {
         self.field(Kind::Digits)?.number(limit)
+    }
+
+    // The next field as a number that is at most `limit`, of sixteen bits.
+    pub fn short_number(&mut self, limit: u16) -> Result<u16, FieldFault>
+        ensures value { (result, self.new.next) ≡ number_in limit (text self.old) self.old.next }
+        ensures count { OnOk result (self.new.next.field ≡ self.old.next.field + 1) }
+        ensures line { text self.new ≡ text self.old }
+    {
+        Ok(self.number(limit as u32)? as u16)
     }
 
     // The next field as one of W's words.
@@ -93,13 +96,10 @@ impl<'a> Reader<'a> {
     {
         let byte = self.next.byte;
         if byte <= self.line.len() {
-            return Err(FieldFault {
-                cause: Cause::Extra,
-                place: Place {
-                    field: wanted + 1,
-                    byte,
-                },
-            });
+            return Err(Cause::Extra.at(Place {
+                field: wanted + 1,
+                byte,
+            }));
         }
         Ok(())
     }

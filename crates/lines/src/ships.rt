@@ -17,7 +17,7 @@ impl Board for ShipBoard {
 
     const BEGIN_FIELDS: usize = 6;
 
-    ghost begin_fields = { 6 };
+    ghost BEGIN_FIELDS = { 6 };
 
     ghost key_fields = { 1 };
 
@@ -29,15 +29,11 @@ impl Board for ShipBoard {
 
     ghost counted = { refl };
 
-    fn field_count() -> usize {
-        Self::BEGIN_FIELDS
-    }
-
     fn read_key(from: &mut Reader<'_>) -> Result<Name, FieldFault> {
         from.name()
     }
 
     fn read_value(from: &mut Reader<'_>) -> Result<u16, FieldFault> {
-        Ok(from.number(65535)? as u16)
+        from.short_number(u16::MAX)
     }
 }
