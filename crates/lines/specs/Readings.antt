@@ -1,5 +1,5 @@
 -- Reading a line field by field, from a place on.
-use Rattle.std.specs.Prelude.{ℕ, ◌+◌, min, Bool, cond, ◌||◌, List, length, Ok, Err, Option, Result, ◌==◌, nat_le, nat_lt}
+use Rattle.std.specs.Prelude.{◌≡◌, ℕ, ◌+◌, min, Bool, cond, ◌||◌, List, length, Ok, Err, Option, OnOk, Result, ◌==◌, nat_le, nat_lt}
 use Rattle.std.specs.Option.{ok_or}
 use Rattle.keys.specs.declared.name.Name.{Name as NameKey}
 use Rattle.keys.specs.declared.name.NameFault.{NameFault}
@@ -35,6 +35,13 @@ and_then m f line p = go_on line f (m line p).0 (m line p).1
 -- the line of a reader
 abbrev pub text : Reader → List ℕ
 text r = r.line.now
+
+-- a read of so many fields: from the place of the next field on it gives what the reading gives, at a fault too; the
+-- line stays; and where the read gives something, the fields are counted
+pub record Reads {X : Type 0} (reading : Reading X) (fields : ℕ) (old new : Reader) (result : Result X FieldFault) : Type 0 where
+  pub value : (result, new.next) ≡ reading (text old) old.next
+  pub line : text new ≡ text old
+  pub count : OnOk result (new.next.field ≡ old.next.field + fields)
 
 -- a line is read from its first field on
 abbrev pub start : Place

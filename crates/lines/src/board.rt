@@ -1,5 +1,5 @@
-ghost use Rattle.std.specs.Prelude.{◌≡◌, ℕ, ◌+◌, OnOk};
-ghost use Rattle.lines.specs.Readings.{Reading, text};
+ghost use Rattle.std.specs.Prelude.{◌≡◌, ℕ, ◌+◌};
+ghost use Rattle.lines.specs.Readings.{Reading, Reads};
 
 use crate::fault::FieldFault;
 use crate::reader::Reader;
@@ -25,14 +25,10 @@ pub trait Board {
     ghost value_in: { Reading Self.Value };
 
     fn read_key(from: &mut Reader<'_>) -> Result<Self::Key, FieldFault>
-        ensures value { (result, from.new.next) ≡ key_in (text from.old) from.old.next }
-        ensures line { text from.new ≡ text from.old }
-        ensures count { OnOk result (from.new.next.field ≡ from.old.next.field + key_fields) };
+        ensures { Reads key_in key_fields from.old from.new result };
 
     fn read_value(from: &mut Reader<'_>) -> Result<Self::Value, FieldFault>
-        ensures value { (result, from.new.next) ≡ value_in (text from.old) from.old.next }
-        ensures line { text from.new ≡ text from.old }
-        ensures count { OnOk result (from.new.next.field ≡ from.old.next.field + value_fields) };
+        ensures { Reads value_in value_fields from.old from.new result };
 
     // The letter, the verb, the session and the operation come before the key.
     ghost counted: { BEGIN_FIELDS ≡ 4 + key_fields + value_fields };

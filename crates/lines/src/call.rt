@@ -1,6 +1,6 @@
-ghost use Rattle.std.specs.Prelude.{◌≡◌, ◌+◌, OnOk};
+ghost use Rattle.std.specs.Prelude.{◌≡◌, ◌-◌};
 ghost use Rattle.lines.specs.Calls.{task_in, action_in, call_in, wanted_fields};
-ghost use Rattle.lines.specs.Readings.{text};
+ghost use Rattle.lines.specs.Readings.{Reads, text};
 
 use crate::board::Board;
 use crate::fault::FieldFault;
@@ -21,10 +21,7 @@ fn wanted_fields<B: Board>(verb: Verb) -> usize
 
 // What a begin goes on with.
 fn read_task<B: Board>(from: &mut Reader<'_>) -> Result<Task<B::Key, B::Value>, FieldFault>
-    requires { from.old.next.field ≡ 4 }
-    ensures value { (result, from.new.next) ≡ task_in B.Board.key_in B.Board.value_in (text from.old) from.old.next }
-    ensures line { text from.new ≡ text from.old }
-    ensures count { OnOk result (from.new.next.field ≡ B.BEGIN_FIELDS + 1) }
+    ensures { Reads (task_in B.Board.key_in B.Board.value_in) (B.BEGIN_FIELDS - 3) from.old from.new result }
 {
     let operation = from.word::<Operation>()?;
     let key = B::read_key(from)?;
@@ -41,10 +38,7 @@ fn read_action<B: Board>(
     from: &mut Reader<'_>,
     verb: Verb,
 ) -> Result<Action<B::Key, B::Value>, FieldFault>
-    requires { from.old.next.field ≡ 4 }
-    ensures value { (result, from.new.next) ≡ action_in B.Board.key_in B.Board.value_in verb (text from.old) from.old.next }
-    ensures line { text from.new ≡ text from.old }
-    ensures count { OnOk result (from.new.next.field ≡ wanted_fields B.BEGIN_FIELDS verb + 1) }
+    ensures { Reads (action_in B.Board.key_in B.Board.value_in verb) (wanted_fields B.BEGIN_FIELDS verb - 3) from.old from.new result }
 {
     match verb {
         Verb::Begin => Ok(Action::Begin(read_task::<B>(from)?)),
@@ -59,8 +53,7 @@ pub(crate) fn read_call<B: Board>(
     from: &mut Reader<'_>,
 ) -> Result<Call<B::Key, B::Value>, FieldFault>
     requires { from.old.next.field ≡ 2 }
-    ensures value { (result, from.new.next) ≡ call_in B.Board.key_in B.Board.value_in (text from.old) from.old.next }
-    ensures line { text from.new ≡ text from.old }
+    ensures { (result, from.new.next) ≡ call_in B.Board.key_in B.Board.value_in (text from.old) from.old.next }
 {
     let verb = from.word::<Verb>()?;
     let session = from.number(255)? as u8;

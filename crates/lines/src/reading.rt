@@ -1,5 +1,5 @@
-ghost use Rattle.std.specs.Prelude.{◌≡◌, ◌+◌, ◌≤◌, IfOk, OnOk};
-ghost use Rattle.lines.specs.Readings.{text, start, seen_in, field_in, number_in, word_in, name_in, end_in};
+ghost use Rattle.std.specs.Prelude.{◌≡◌, ◌+◌, ◌≤◌, IfOk};
+ghost use Rattle.lines.specs.Readings.{Reads, text, start, seen_in, field_in, number_in, word_in, name_in, end_in};
 
 use crate::fault::{Cause, FieldFault, Place};
 use crate::field::field_end;
@@ -21,8 +21,7 @@ impl<'a> Reader<'a> {
 
     // The next field, which is neither missing nor empty.
     pub fn field(&mut self, kind: Kind) -> Result<Field<'a>, FieldFault>
-        ensures value { (seen_in result, self.new.next) ≡ field_in kind (text self.old) self.old.next }
-        ensures line { text self.new ≡ text self.old }
+        ensures { Reads (field_in kind) 1 self.old self.new (seen_in result) }
     {
         let line = self.line;
         let place = self.next;
@@ -53,37 +52,29 @@ impl<'a> Reader<'a> {
 
     // The next field as a number.
     pub fn number(&mut self, limit: u32) -> Result<u32, FieldFault>
-        ensures value { (result, self.new.next) ≡ number_in limit (text self.old) self.old.next }
-        ensures count { OnOk result (self.new.next.field ≡ self.old.next.field + 1) }
+        ensures read { Reads (number_in limit) 1 self.old self.new result }
         ensures bound { IfOk result (λ n. n ≤ limit) }
-        ensures line { text self.new ≡ text self.old }
     {
         self.field(Kind::Digits)?.number(limit)
     }
 
     // The next field as a number that is at most `limit`, of sixteen bits.
     pub fn short_number(&mut self, limit: u16) -> Result<u16, FieldFault>
-        ensures value { (result, self.new.next) ≡ number_in limit (text self.old) self.old.next }
-        ensures count { OnOk result (self.new.next.field ≡ self.old.next.field + 1) }
-        ensures line { text self.new ≡ text self.old }
+        ensures { Reads (number_in limit) 1 self.old self.new result }
     {
         Ok(self.number(limit as u32)? as u16)
     }
 
     // The next field as one of W's words.
     pub fn word<W: Word>(&mut self) -> Result<W, FieldFault>
-        ensures value { (result, self.new.next) ≡ word_in W.Word.words (text self.old) self.old.next }
-        ensures count { OnOk result (self.new.next.field ≡ self.old.next.field + 1) }
-        ensures line { text self.new ≡ text self.old }
+        ensures { Reads (word_in W.Word.words) 1 self.old self.new result }
     {
         self.field(Kind::Word)?.word::<W>()
     }
 
     // The next field as a name.
     pub fn name(&mut self) -> Result<Name, FieldFault>
-        ensures value { (result, self.new.next) ≡ name_in (text self.old) self.old.next }
-        ensures count { OnOk result (self.new.next.field ≡ self.old.next.field + 1) }
-        ensures line { text self.new ≡ text self.old }
+        ensures { Reads name_in 1 self.old self.new result }
     {
         self.field(Kind::Name)?.name()
     }
@@ -91,8 +82,7 @@ impl<'a> Reader<'a> {
     // Refuses a field that follows the last of those wanted, which have been read.
     pub(crate) fn finish(&mut self, wanted: usize) -> Result<(), FieldFault>
         requires { self.old.next.field ≡ wanted + 1 }
-        ensures value { (result, self.new.next) ≡ end_in (text self.old) self.old.next }
-        ensures line { text self.new ≡ text self.old }
+        ensures { Reads end_in 0 self.old self.new result }
     {
         let byte = self.next.byte;
         if byte <= self.line.len() {
