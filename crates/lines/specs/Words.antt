@@ -1,5 +1,6 @@
 -- The words of a line.
-use Rattle.std.specs.Prelude.{ℕ, cond, List, [], ◌∷◌, Some, None, codes, Option}
+use Rattle.std.specs.Prelude.{ℕ, List, [], ◌∷◌, codes, Option}
+use Rattle.std.specs.List.{find}
 use Rattle.std.specs.Str.{bytes_eq}
 use Rattle.calls.specs.declared.operation.Operation.{Operation}
 use Rattle.calls.specs.declared.operation.Operation.TheVariants.{Find, Insert, Write, Replace, Remove, Point}
@@ -10,8 +11,7 @@ use Rattle.lines.specs.declared.word.Verb.TheVariants.{Begin, Turn, Collect, Aba
 
 -- the first of a list of words that the bytes spell
 abbrev pub first_of : {W : Type 0} → (W → List ℕ) → List W → List ℕ → Option W
-first_of spelled [] bs = None
-first_of spelled (w ∷ ws) bs = cond (bytes_eq bs (spelled w)) (Some w) (first_of spelled ws bs)
+first_of spelled ws bs = find (λ w. bytes_eq bs (spelled w)) ws
 
 abbrev pub letter : Letter → List ℕ
 letter B = codes "B"

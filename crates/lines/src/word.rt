@@ -19,7 +19,7 @@ pub enum Verb {
     Abandon,
 }
 
-// A word of a closed list.
+// A word of a closed list. `TryFrom<&[u8]>` would add a lifetime and an empty error to each bound.
 pub trait Word: Copy {
     ghost words: { List ℕ → OptionOf Self };
 
