@@ -1,5 +1,5 @@
 -- A list of calls, one call more.
-use Rattle.std.proofs.Common.{◌≡◌, ℕ, suc, ◌+◌, ◌<◌, List, [], ◌∷◌, ◌++◌, length, get_or, take, drop, set, Ok, Err, Result, sym, refl, ap, ◌∙◌, subst, arith}
+use Rattle.std.proofs.Common.{◌≡◌, ℕ, suc, ◌+◌, ◌<◌, List, [], ◌∷◌, ◌++◌, length, get_or, take, drop, set, Ok, Result, sym, refl, ap, ◌∙◌, subst, arith}
 use Rattle.std.proofs.lemmas.List.{take_more, drop_more, set_at, append_assoc, length-take-le}
 use Rattle.std.specs.declared.cmp.Ordering.{Ordering}
 use Rattle.calls.specs.declared.call.Call.{Call}
@@ -49,12 +49,7 @@ module _ {K V : Type 0} (order : K → K → Ordering) (digest : K → Hash) whe
         ∙ sym (append_assoc front (r ∷ []) (drop (i + 1) old))
         ∙ ap (λ xs. xs ++ drop (i + 1) old) (ap (λ x. front ++ x ∷ []) answer ∙ sym (ap (λ xs. (played order digest st xs).0) taken ∙ (played_push st (take i cs) c).0))
 
-  -- a refused making, and a list of calls after an accepted one
-  pub replay_undone : (making : Outcome (Unit {0}) K V) (calls : List (Call K V)) (old : List (Result (Reply V) IndexFault)) (e : IndexFault) (after : State K V) →
-      (Err e, after) ≡ making → Replayed order digest making calls old (Err e) old after
-  replay_undone making calls old e after made =
-      subst (λ (m : Outcome (Unit {0}) K V). Replayed order digest m calls old (Err e) old after) made (record { refused = refl; same_replies = refl; same_state = refl })
-
+  -- a list of calls after an accepted making
   pub replay_done : (making : Outcome (Unit {0}) K V) (calls : List (Call K V)) (old replies : List (Result (Reply V) IndexFault)) (n : ℕ) (mid after : State K V) →
       (Ok tt, mid) ≡ making → Done order digest mid calls old n replies after → Replayed order digest making calls old (Ok n) replies after
   replay_done making calls old replies n mid after made done =

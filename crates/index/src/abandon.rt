@@ -3,12 +3,12 @@ ghost use Rattle.rules.specs.Abandon.{abandon, released, put_out};
 ghost use Rattle.rules.specs.States.{state};
 ghost use Rattle.tables.specs.Sessions.{aside_of, claim_of, job_of};
 
+use crate::acting::put_aside_out;
 use crate::record::Record;
-use crate::seat::find_seat;
 use calls::fault::IndexFault;
 use keys::key::Key;
-use tables::item::{Item, ItemState};
-use tables::items::{put_mark, put_state};
+use tables::item::Item;
+use tables::items::put_mark;
 use tables::request::Request;
 use tables::session::{Stage, Work};
 
@@ -19,9 +19,7 @@ fn give_up<K: Copy, V: Copy>(items: &mut [Item<K, V>], work: Work)
     if let Some(place) = work.claim() {
         put_mark(items, place, false);
     }
-    if let Some(place) = work.job().aside() {
-        put_state(items, place, ItemState::Out);
-    }
+    put_aside_out(items, work.job());
 }
 
 impl Record {
@@ -35,7 +33,7 @@ impl Record {
     ) -> Result<(), IndexFault>
         ensures { (result, state self.new.core heads.now items.new requests.now) ≡ abandon (state self.old.core heads.now items.old requests.now) session }
     {
-        let seat = find_seat(&self.core, heads, items, requests, session)?;
+        let seat = self.find_seat(heads, items, requests, session)?;
         match seat.stage {
             Stage::Idle => return Err(IndexFault::Idle),
             Stage::UnderWay(work) => give_up(items, work),

@@ -15,9 +15,8 @@ use tables::session::Job;
 pub(crate) fn move_head(heads: &mut [u32], bucket: u32, head: HeadMove)
     ensures { heads.new ≡ head_by head bucket heads.old }
 {
-    match head {
-        HeadMove::Stays => {}
-        HeadMove::Becomes(to) => put_head(heads, bucket, to),
+    if let HeadMove::Becomes(to) = head {
+        put_head(heads, bucket, to);
     }
 }
 
@@ -26,16 +25,9 @@ pub(crate) fn point_head(heads: &mut [u32], job: Job, finds: u8, bucket: u32, pl
     ensures { heads.new ≡ pointed_by job finds bucket place heads.old }
 {
     match job {
-        Job::Find => {
-            if finds >= 4 {
-                put_head(heads, bucket, Some(place));
-            }
-        }
-        Job::Insert(_) => {}
-        Job::Write => {}
-        Job::Replace(_) => {}
-        Job::Remove => {}
-        Job::Point => put_head(heads, bucket, Some(place)),
+        Job::Find if finds < 4 => {}
+        Job::Find | Job::Point => put_head(heads, bucket, Some(place)),
+        Job::Insert(_) | Job::Write | Job::Replace(_) | Job::Remove => {}
     }
 }
 
@@ -48,13 +40,8 @@ pub(crate) fn write_found<K: Copy, V: Copy>(
 )
     ensures { items.new ≡ written_by job place value items.old }
 {
-    match job {
-        Job::Find => {}
-        Job::Insert(_) => {}
-        Job::Write => put_value(items, place, value),
-        Job::Replace(_) => {}
-        Job::Remove => {}
-        Job::Point => {}
+    if let Job::Write = job {
+        put_value(items, place, value);
     }
 }
 

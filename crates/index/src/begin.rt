@@ -1,10 +1,7 @@
 ghost use Rattle.std.specs.Prelude.{◌≡◌, true, None as Nowhere};
-ghost use Rattle.index.specs.Within.{is_within};
 ghost use Rattle.rules.specs.Begin.{begin, job_for, hand_after, prepared};
 ghost use Rattle.rules.specs.Free.{first_free_in};
 ghost use Rattle.rules.specs.States.{state};
-ghost use Rattle.calls.specs.declared.fault.IndexFault.TheVariants.{NoPlace};
-ghost use Rattle.std.specs.Option.{ok_or};
 ghost use Rattle.tables.specs.declared.session.Stage.TheVariants.{UnderWay};
 ghost use Rattle.tables.specs.declared.session.Work.TheVariants.{Seeking};
 ghost use Rattle.tables.specs.Items.{with_request};
@@ -14,7 +11,6 @@ ghost use Rattle.tables.specs.Sessions.{aside_of, at_stage};
 
 use crate::free::first_free;
 use crate::record::Record;
-use crate::seat::find_seat;
 use calls::call::Task;
 use calls::fault::IndexFault;
 use calls::operation::Operation;
@@ -24,37 +20,6 @@ use tables::items::prepare;
 use tables::record::Core;
 use tables::request::{Request, put_request};
 use tables::session::{Job, Stage, Work};
-
-// The job of an operation; insert and replace set the first free place aside.
-fn job_for<K: Copy, V: Copy>(
-    core: &Core,
-    items: &[Item<K, V>],
-    operation: Operation,
-) -> Result<Job, IndexFault>
-    requires within { is_within core.now ≡ true }
-    requires made { core.now.made ≡ true }
-    ensures { result ≡ job_for (first_free_in core.now items.now) operation }
-{
-    match operation {
-        Operation::Find => Ok(Job::Find),
-        Operation::Insert => Ok(Job::Insert(place_for(core, items)?)),
-        Operation::Write => Ok(Job::Write),
-        Operation::Replace => Ok(Job::Replace(place_for(core, items)?)),
-        Operation::Remove => Ok(Job::Remove),
-        Operation::Point => Ok(Job::Point),
-    }
-}
-
-fn place_for<K: Copy, V: Copy>(core: &Core, items: &[Item<K, V>]) -> Result<u32, IndexFault>
-    requires within { is_within core.now ≡ true }
-    requires made { core.now.made ≡ true }
-    ensures { result ≡ ok_or (first_free_in core.now items.now) NoPlace }
-{
-    match first_free(&core.sessions, items, core.places, core.hand) {
-        None => Err(IndexFault::NoPlace),
-        Some(place) => Ok(place),
-    }
-}
 
 // The session takes up its task.
 fn take_up<K: Copy, V: Copy>(
@@ -78,6 +43,26 @@ fn take_up<K: Copy, V: Copy>(
 }
 
 impl Record {
+    // The job of an operation; insert and replace set the first free place aside.
+    fn job_for<K: Copy, V: Copy>(
+        &self,
+        items: &[Item<K, V>],
+        operation: Operation,
+    ) -> Result<Job, IndexFault>
+        requires { self.now.core.made ≡ true }
+        ensures { result ≡ job_for (first_free_in self.now.core items.now) operation }
+    {
+        let free = || first_free(&self.core, items).ok_or(IndexFault::NoPlace);
+        match operation {
+            Operation::Find => Ok(Job::Find),
+            Operation::Insert => free().map(Job::Insert),
+            Operation::Write => Ok(Job::Write),
+            Operation::Replace => free().map(Job::Replace),
+            Operation::Remove => Ok(Job::Remove),
+            Operation::Point => Ok(Job::Point),
+        }
+    }
+
     // A session takes up a task. Refused, in this order: 9, 10, 11, 12.
     pub(crate) fn begin_step<K: Key, V: Copy>(
         &mut self,
@@ -89,11 +74,11 @@ impl Record {
     ) -> Result<(), IndexFault>
         ensures { (result, state self.new.core heads.now items.new requests.new) ≡ begin (state self.old.core heads.now items.old requests.old) session task }
     {
-        let seat = find_seat(&self.core, heads, items, requests, session)?;
+        let seat = self.find_seat(heads, items, requests, session)?;
         let Stage::Idle = seat.stage else {
             return Err(IndexFault::NotIdle);
         };
-        let job = job_for(&self.core, items, task.operation)?;
+        let job = self.job_for(items, task.operation)?;
         take_up(&mut self.core, items, requests, session, task, job);
         Ok(())
     }

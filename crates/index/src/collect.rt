@@ -4,11 +4,9 @@ ghost use Rattle.rules.specs.States.{state};
 ghost use Rattle.std.specs.List.{slice_get};
 
 use crate::record::Record;
-use crate::seat::find_seat;
 use calls::fault::IndexFault;
 use keys::key::Key;
 use tables::item::Item;
-use tables::items::element_at;
 use tables::request::Request;
 use tables::session::Stage;
 
@@ -19,10 +17,7 @@ fn answer_of<K: Copy, V: Copy>(requests: &[Request<K, V>], session: u8, present:
     if !present {
         return None;
     }
-    match element_at(requests, session as usize) {
-        None => None,
-        Some(request) => Some(request.value),
-    }
+    requests.get(session as usize).map(|request| request.value)
 }
 
 impl Record {
@@ -36,7 +31,7 @@ impl Record {
     ) -> Result<Option<V>, IndexFault>
         ensures { (result, state self.new.core heads.now items.now requests.now) ≡ collect (state self.old.core heads.now items.now requests.now) session }
     {
-        let seat = find_seat(&self.core, heads, items, requests, session)?;
+        let seat = self.find_seat(heads, items, requests, session)?;
         match seat.stage {
             Stage::Idle => Err(IndexFault::Idle),
             Stage::UnderWay(_) => Err(IndexFault::UnderWay),

@@ -11,21 +11,14 @@ use keys::rank::have_one_rank;
 use rings::between::falls_between;
 use tables::heads::head_of;
 use tables::item::{Item, ItemState};
-use tables::items::{element_at, next_of};
+use tables::items::next_of;
 use tables::moves::Move;
 use tables::session::Job;
 
 fn looks_ahead(job: Job) -> bool
     ensures { result ≡ looks_ahead job }
 {
-    match job {
-        Job::Find => false,
-        Job::Insert(_) => true,
-        Job::Write => false,
-        Job::Replace(_) => true,
-        Job::Remove => true,
-        Job::Point => false,
-    }
+    matches!(job, Job::Insert(_) | Job::Replace(_) | Job::Remove)
 }
 
 // The ring is empty.
@@ -33,12 +26,8 @@ fn miss_empty<V: Copy>(job: Job) -> Move<V>
     ensures { result ≡ miss_empty job }
 {
     match job {
-        Job::Find => Move::Absent,
         Job::Insert(aside) => Move::LinkAlone(aside),
-        Job::Write => Move::Absent,
-        Job::Replace(_) => Move::Absent,
-        Job::Remove => Move::Absent,
-        Job::Point => Move::Absent,
+        _ => Move::Absent,
     }
 }
 
@@ -47,18 +36,9 @@ fn miss_between<K: Copy, V: Copy>(job: Job, pair: (u32, u32), item: Item<K, V>) 
     ensures { result ≡ miss_between job pair item }
 {
     match job {
-        Job::Find => Move::Absent,
-        Job::Insert(aside) => {
-            if item.occupied {
-                Move::Wait
-            } else {
-                Move::Link(aside, pair)
-            }
-        }
-        Job::Write => Move::Absent,
-        Job::Replace(_) => Move::Absent,
-        Job::Remove => Move::Absent,
-        Job::Point => Move::Absent,
+        Job::Insert(_) if item.occupied => Move::Wait,
+        Job::Insert(aside) => Move::Link(aside, pair),
+        _ => Move::Absent,
     }
 }
 
@@ -91,25 +71,16 @@ impl<'a, K: Key, V: Copy> Seeker<'a, K, V> {
         ensures { result ≡ hit_ahead K.Key.order K.Key.digest (seen_by self.now) self.now.key job pair next }
     {
         match job {
-            Job::Find => Ok(Move::Present(pair.1, next.value)),
-            Job::Insert(_) => Ok(Move::Present(pair.1, next.value)),
-            Job::Write => Ok(Move::Present(pair.1, next.value)),
+            Job::Replace(_) | Job::Remove if next.occupied => Ok(Move::Wait),
             Job::Replace(aside) => {
-                if next.occupied {
-                    return Ok(Move::Wait);
-                }
                 let ahead = self.next(next)?;
                 let lead = if ahead == pair.1 { aside } else { ahead };
                 Ok(Move::ClaimToReplace(aside, pair, lead))
             }
-            Job::Remove => {
-                if next.occupied {
-                    Ok(Move::Wait)
-                } else {
-                    Ok(Move::ClaimToRemove(pair))
-                }
+            Job::Remove => Ok(Move::ClaimToRemove(pair)),
+            Job::Find | Job::Insert(_) | Job::Write | Job::Point => {
+                Ok(Move::Present(pair.1, next.value))
             }
-            Job::Point => Ok(Move::Present(pair.1, next.value)),
         }
     }
 
@@ -136,18 +107,14 @@ impl<'a, K: Key, V: Copy> Seeker<'a, K, V> {
     fn pair_from(&self, cursor: u32, item: Item<K, V>) -> Result<(u32, u32), IndexFault>
         ensures { result ≡ pair_from K.Key.order K.Key.digest (seen_by self.now) self.now.key cursor item }
     {
-        let next = self.next(item)?;
-        Ok((cursor, next))
+        Ok((cursor, self.next(item)?))
     }
 
     // Whether the item stood on is what find, write or point seeks.
     fn is_here(&self, job: Job, key: K) -> bool
         ensures { result ≡ (not (looks_ahead job) && has_rank K.Key.order K.Key.digest (seen_by self.now) self.now.key key) }
     {
-        if looks_ahead(job) {
-            return false;
-        }
-        self.has_rank(key)
+        !looks_ahead(job) && self.has_rank(key)
     }
 
     // The item stood on is in ring.
@@ -158,23 +125,18 @@ impl<'a, K: Key, V: Copy> Seeker<'a, K, V> {
             return Ok(Move::Present(cursor, item.value));
         }
         let pair = self.pair_from(cursor, item)?;
-        match element_at(self.items, pair.1 as usize) {
-            None => Err(IndexFault::OutsideTable),
-            Some(next) => self.on_pair(job, pair, item, next),
-        }
+        let next = self.item(pair.1)?;
+        self.on_pair(job, pair, item, next)
     }
 
     // The item stood on, whatever it is.
     fn on_item(&self, job: Job, cursor: u32) -> Result<Move<V>, IndexFault>
         ensures { result ≡ on_item K.Key.order K.Key.digest (seen_by self.now) self.now.key job cursor (slice_get self.now.items.now cursor) }
     {
-        match element_at(self.items, cursor as usize) {
-            None => Err(IndexFault::OutsideTable),
-            Some(item) => match item.state {
-                ItemState::Out => Ok(Move::Leave),
-                ItemState::SetAside => Ok(Move::Leave),
-                ItemState::InRing => self.on_ring(job, cursor, item),
-            },
+        let item = self.item(cursor)?;
+        match item.state {
+            ItemState::InRing => self.on_ring(job, cursor, item),
+            ItemState::Out | ItemState::SetAside => Ok(Move::Leave),
         }
     }
 
@@ -185,8 +147,8 @@ impl<'a, K: Key, V: Copy> Seeker<'a, K, V> {
         match cursor {
             Some(place) => self.on_item(job, place),
             None => match self.head()? {
-                None => Ok(miss_empty(job)),
                 Some(head) => Ok(Move::Step(head)),
+                None => Ok(miss_empty(job)),
             },
         }
     }

@@ -30,6 +30,7 @@ impl Record {
         let count = calls.len().min(replies.len());
         for i in 0..count {
             let reply = self.call_step(heads, items, requests, calls[i]);
+            // not `replies[i] = ..`: at a type made of V the bound of the offset is not found here
             put_element(replies, i, reply);
         }
         count
@@ -48,9 +49,7 @@ impl Record {
     ) -> Result<usize, IndexFault>
         ensures { Replayed K.Key.order K.Key.digest (make bits (state self.old.core heads.old items.old requests.old)) calls.now replies.old result replies.new (state self.new.core heads.new items.new requests.new) }
     {
-        match self.make_step(heads, items, requests, bits) {
-            Err(fault) => Err(fault),
-            Ok(()) => Ok(self.play(heads, items, requests, calls, replies)),
-        }
+        self.make_step(heads, items, requests, bits)?;
+        Ok(self.play(heads, items, requests, calls, replies))
     }
 }

@@ -7,7 +7,6 @@ use crate::seeker::Seeker;
 use calls::fault::IndexFault;
 use keys::key::Key;
 use tables::item::{Item, ItemState};
-use tables::items::element_at;
 use tables::moves::{HeadMove, Move};
 use tables::session::Work;
 
@@ -15,15 +14,10 @@ use tables::session::Work;
 fn follow(place: u32, to: Option<u32>, head: Option<u32>) -> HeadMove
     ensures { result ≡ followed place to head }
 {
-    match head {
-        None => HeadMove::Stays,
-        Some(h) => {
-            if h == place {
-                HeadMove::Becomes(to)
-            } else {
-                HeadMove::Stays
-            }
-        }
+    if head == Some(place) {
+        HeadMove::Becomes(to)
+    } else {
+        HeadMove::Stays
     }
 }
 
@@ -31,7 +25,7 @@ fn follow(place: u32, to: Option<u32>, head: Option<u32>) -> HeadMove
 fn heir_of(place: u32, ahead: u32) -> Option<u32>
     ensures { result ≡ heir place ahead }
 {
-    if ahead == place { None } else { Some(ahead) }
+    (ahead != place).then_some(ahead)
 }
 
 // Whether the first of the pair leads to the second, and is unoccupied or is the second itself.
@@ -46,54 +40,31 @@ impl<'a, K: Key, V: Copy> Seeker<'a, K, V> {
     fn swing_ready(&self, pair: (u32, u32)) -> Result<bool, IndexFault>
         ensures { result ≡ swing_ready K.Key.order K.Key.digest (seen_by self.now) self.now.key pair (slice_get self.now.items.now pair.0) }
     {
-        match element_at(self.items, pair.0 as usize) {
-            None => Err(IndexFault::OutsideTable),
-            Some(item) => match item.state {
-                ItemState::Out => Ok(false),
-                ItemState::SetAside => Ok(false),
-                ItemState::InRing => {
-                    let _next = self.next(item)?;
-                    Ok(may_swing(pair, item))
-                }
-            },
-        }
+        let item = self.item(pair.0)?;
+        let ItemState::InRing = item.state else {
+            return Ok(false);
+        };
+        self.next(item)?;
+        Ok(may_swing(pair, item))
     }
 
     // The claimed item gives way to the one set aside.
     fn replace_claimed(&self, aside: u32, pair: (u32, u32)) -> Result<Move<V>, IndexFault>
         ensures { result ≡ replace_claimed K.Key.order K.Key.digest (seen_by self.now) self.now.key aside pair (slice_get self.now.items.now pair.1) }
     {
-        match element_at(self.items, pair.1 as usize) {
-            None => Err(IndexFault::OutsideTable),
-            Some(claimed) => {
-                let head = self.head()?;
-                Ok(Move::SwingIn(
-                    aside,
-                    pair,
-                    follow(pair.1, Some(aside), head),
-                    claimed.value,
-                ))
-            }
-        }
+        let claimed = self.item(pair.1)?;
+        let head = follow(pair.1, Some(aside), self.head()?);
+        Ok(Move::SwingIn(aside, pair, head, claimed.value))
     }
 
     // The claimed item is cut out.
     fn remove_claimed(&self, pair: (u32, u32)) -> Result<Move<V>, IndexFault>
         ensures { result ≡ remove_claimed K.Key.order K.Key.digest (seen_by self.now) self.now.key pair (slice_get self.now.items.now pair.1) }
     {
-        match element_at(self.items, pair.1 as usize) {
-            None => Err(IndexFault::OutsideTable),
-            Some(claimed) => {
-                let ahead = self.next(claimed)?;
-                let head = self.head()?;
-                Ok(Move::SwingOut(
-                    pair,
-                    ahead,
-                    follow(pair.1, heir_of(pair.1, ahead), head),
-                    claimed.value,
-                ))
-            }
-        }
+        let claimed = self.item(pair.1)?;
+        let ahead = self.next(claimed)?;
+        let head = follow(pair.1, heir_of(pair.1, ahead), self.head()?);
+        Ok(Move::SwingOut(pair, ahead, head, claimed.value))
     }
 
     // What a turn does next. It reads, and writes nothing.
@@ -102,20 +73,11 @@ impl<'a, K: Key, V: Copy> Seeker<'a, K, V> {
     {
         match work {
             Work::Seeking(job, cursor) => self.seek(job, cursor),
-            Work::Replacing(aside, pair) => {
-                if self.swing_ready(pair)? {
-                    self.replace_claimed(aside, pair)
-                } else {
-                    Ok(Move::GiveUp(pair.1))
-                }
+            Work::Replacing(aside, pair) if self.swing_ready(pair)? => {
+                self.replace_claimed(aside, pair)
             }
-            Work::Removing(pair) => {
-                if self.swing_ready(pair)? {
-                    self.remove_claimed(pair)
-                } else {
-                    Ok(Move::GiveUp(pair.1))
-                }
-            }
+            Work::Removing(pair) if self.swing_ready(pair)? => self.remove_claimed(pair),
+            Work::Replacing(_, pair) | Work::Removing(pair) => Ok(Move::GiveUp(pair.1)),
         }
     }
 }

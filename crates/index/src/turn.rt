@@ -4,7 +4,6 @@ ghost use Rattle.rules.specs.Turn.{turn};
 
 use crate::actor::Actor;
 use crate::record::Record;
-use crate::seat::find_seat;
 use crate::seeker::Seeker;
 use calls::fault::IndexFault;
 use calls::reply::Progress;
@@ -26,15 +25,13 @@ impl Record {
     ) -> Result<Progress, IndexFault>
         ensures { (result, state self.new.core heads.new items.new requests.new) ≡ turn K.Key.order K.Key.digest (state self.old.core heads.old items.old requests.old) session }
     {
-        let seat = find_seat(&self.core, heads, items, requests, session)?;
+        let seat = self.find_seat(heads, items, requests, session)?;
         let work = match seat.stage {
             Stage::Idle => return Err(IndexFault::Idle),
             Stage::Ended(_, _) => return Err(IndexFault::Ended),
             Stage::UnderWay(work) => work,
         };
-        let Some(request) = element_at(requests, session as usize) else {
-            return Err(IndexFault::NoSession);
-        };
+        let request = element_at(requests, session as usize).ok_or(IndexFault::NoSession)?;
         let key = request.key;
         let seeker = Seeker {
             core: &self.core,

@@ -1,6 +1,7 @@
 // What a turn has decided to do. A pair is the place stood on and the one after it.
 
-// What becomes of the head of the ring when an item leaves it.
+// What becomes of the head of the ring when an item leaves it. An `Option<Option<u32>>` would not say
+// which of its two `None`s leaves the head alone.
 #[derive(Clone, Copy)]
 pub enum HeadMove {
     Stays,

@@ -24,15 +24,16 @@ pub enum Work {
 }
 
 // Idle, under way, or ended with the answer present (true) or absent.
-#[derive(Clone, Copy, Debug, PartialEq, Eq)]
+#[derive(Clone, Copy, Debug, Default, PartialEq, Eq)]
 pub enum Stage {
+    #[default]
     Idle,
     UnderWay(Work),
     Ended(Operation, bool),
 }
 
 // One of the sixteen sessions. `finds` counts its finds since a head last moved by one, 0 to 4.
-#[derive(Clone, Copy, Debug, PartialEq, Eq)]
+#[derive(Clone, Copy, Debug, Default, PartialEq, Eq)]
 pub struct Session {
     pub stage: Stage,
     pub finds: u8,
@@ -57,12 +58,8 @@ impl Job {
         ensures { result ≡ aside_of self }
     {
         match self {
-            Job::Find => None,
-            Job::Insert(place) => Some(place),
-            Job::Write => None,
-            Job::Replace(place) => Some(place),
-            Job::Remove => None,
-            Job::Point => None,
+            Job::Insert(place) | Job::Replace(place) => Some(place),
+            Job::Find | Job::Write | Job::Remove | Job::Point => None,
         }
     }
 }
@@ -84,8 +81,7 @@ impl Work {
     {
         match self {
             Work::Seeking(_, cursor) => cursor,
-            Work::Replacing(_, pair) => Some(pair.0),
-            Work::Removing(pair) => Some(pair.0),
+            Work::Replacing(_, pair) | Work::Removing(pair) => Some(pair.0),
         }
     }
 
@@ -95,8 +91,7 @@ impl Work {
     {
         match self {
             Work::Seeking(_, _) => None,
-            Work::Replacing(_, pair) => Some(pair.1),
-            Work::Removing(pair) => Some(pair.1),
+            Work::Replacing(_, pair) | Work::Removing(pair) => Some(pair.1),
         }
     }
 }
@@ -122,11 +117,8 @@ fn finds_after(operation: Operation, finds: u8) -> u8
     ensures { result ≡ finds_after operation finds }
 {
     match operation {
-        Operation::Find => { if finds < 4 { finds + 1 } else { 0 } }
-        Operation::Insert => finds,
-        Operation::Write => finds,
-        Operation::Replace => finds,
-        Operation::Remove => finds,
-        Operation::Point => finds,
+        Operation::Find if finds < 4 => finds + 1,
+        Operation::Find => 0,
+        _ => finds,
     }
 }

@@ -1,21 +1,14 @@
-use Rattle.std.proofs.Common.{ℕ, ◌-◌, ◌<◌, Bool, sym, ap, ◌∙◌, subst}
+use Rattle.std.proofs.Common.{sym, ◌∙◌, arith}
 use Rattle.std.specs.List.{slice_get}
-use Rattle.rules.specs.Free.{is_free_item, first_from}
-use Rattle.index.proofs.Scans.{scan_more, scan_hit, after_below}
+use Rattle.rules.specs.Free.{is_free_item}
+use Rattle.index.proofs.Scans.{scan_next}
 use Rattle.index.proofs.free.first_free.Goals as goal
 
-pub returns-then-is_free : goal.returns-then-is_free
-returns-then-is_free g c =
-    let l = c.loop-left in
-    let free : ℕ → Bool = λ p. is_free_item c.args.sessions.now p (slice_get c.args.items.now p) in
-    sym (sym l.invariant.1 ∙ scan_hit free c.args.places l.place l.left c.loop-left-test.true (sym c.if-is_free.ensures))
-
-pub loop-left-preserved : goal.loop-left-preserved
-loop-left-preserved g c =
-    let l = c.loop-left in
-    let free : ℕ → Bool = λ p. is_free_item c.args.sessions.now p (slice_get c.args.items.now p) in
-    let e = c.place_after-place-in-loop-left.ensures in
-    let h = scan_more free c.args.places l.place l.left c.loop-left-test.true (sym c.if-is_free.ensures) in (
-      subst (λ (x : ℕ). x < c.args.places) (sym e) (after_below c.args.places l.place l.invariant.0),
-      ap (λ x. first_from free c.args.places x (l.left - 1)) e ∙ h ∙ l.invariant.1,
-    )
+pub loop-step-preserved : goal.loop-step-preserved
+loop-step-preserved g c =
+    let l = c.loop-step in
+    let core = c.args.core.now in
+    let s =
+    scan_next (λ p. is_free_item core.sessions p (slice_get c.args.items.now p)) core.places c.place_after-place.result l.place l.step l.invariant.0 (omega arith)
+    c.place_after-place.ensures (sym c.if-is_free.ensures) in
+    (s.0, s.1 ∙ l.invariant.1)

@@ -1,20 +1,17 @@
-use Rattle.std.proofs.Common.{sym, ◌∙◌}
-use Rattle.std.proofs.lemmas.List.{at_drop_all}
-use Rattle.rules.specs.Free.{is_stood_on}
-use Rattle.index.proofs.Scans.{stood_more, stood_hit}
+use Rattle.std.proofs.Common.{◌≡◌, ℕ, ◌||◌, List, [], ◌∷◌, refl, ap, ◌∙◌, rules, tests}
+use Rattle.std.specs.List.{list_any}
+use Rattle.std.proofs.lemmas.Iterator.{YieldsList-from_slice}
+use Rattle.std.proofs.lemmas.Iterator.Search.{any_from_yields_List}
+use Rattle.tables.specs.declared.session.Session.{Session}
+use Rattle.rules.specs.Free.{stands_on, is_stood_on}
 use Rattle.index.proofs.free.is_stood_on.Goals as goal
 
-pub returns-then-stands_on : goal.returns-then-stands_on
-returns-then-stands_on c =
-    let l = c.loop-session in
-    sym (sym l.invariant ∙ stood_hit c.args.place c.args.sessions.now l.session-index _ c.loop-session-test.true (sym c.if-stands_on.ensures))
-
-pub loop-session-preserved : goal.loop-session-preserved
-loop-session-preserved c =
-    let l = c.loop-session in
-    stood_more c.args.place c.args.sessions.now l.session-index _ c.loop-session-test.true (sym c.if-stands_on.ensures) ∙ l.invariant
+any_stands : (p : ℕ) (ss : List Session) → list_any (λ s. stands_on p s.stage) ss ≡ is_stood_on p ss
+any_stands p [] = refl
+any_stands p (s ∷ ss) = ap (λ b. stands_on p s.stage || b) (any_stands p ss)
 
 pub returns : goal.returns
 returns c =
-    let l = c.loop-session in
-    sym (sym l.invariant ∙ at_drop_all (is_stood_on c.args.place) c.args.sessions.now l.session-index c.loop-session-test.false)
+    let p = c.args.place in
+    let ss = c.args.sessions.now in
+    any_from_yields_List (λ s. stands_on p s.stage) _ _ _ c.any.ensures.ran (YieldsList-from_slice ss cc) (λ x b q k. search (rules, tests)) ∙ any_stands p ss

@@ -15,7 +15,7 @@ invariant_of-self g c =
     let st = state self.core c.args.heads.now c.args.items.now c.args.requests.now in
     let seat = c.in_ok-seat.seat in
     let w = c.in-UnderWay.work in
-    let r = c.in-Some.request in
+    let r = c.in_ok-request.request in
     let m = c.in_ok-decided.decided in
     let done = c.act.ensures ∙ ap (λ j. act st c.args.session j seat.finds r c.bucket_of.result m) c.job.ensures in
     let kept = turn_within g.K.Key.order g.K.Key.digest st c.args.session c.bucket_of.result seat w r m self.within (sym c.in_ok-seat.ensures.value) c.in-UnderWay.is (sym c.in_ok-decided.ensures) in
@@ -27,10 +27,10 @@ returns g c =
     let st = state self.core c.args.heads.now c.args.items.now c.args.requests.now in
     let seat = c.in_ok-seat.seat in
     let w = c.in-UnderWay.work in
-    let r = c.in-Some.request in
+    let r = c.in_ok-request.request in
     let m = c.in_ok-decided.decided in
     let done =
     c.act.ensures
     ∙ ap (λ j. act st c.args.session j seat.finds r c.bucket_of.result m) c.job.ensures
     ∙ ap (λ b. act st c.args.session (job_of w) seat.finds r b m) (c.bucket_of.ensures ∙ ap (bucket self.core.bits) c.hash.ensures) in
-    turn_is g.K.Key.order g.K.Key.digest st c.args.session seat w r m _ (sym c.in_ok-seat.ensures.value) c.in-UnderWay.is (sym c.in-Some.ensures) (sym c.in_ok-decided.ensures) done
+    turn_is g.K.Key.order g.K.Key.digest st c.args.session seat w r m _ (sym c.in_ok-seat.ensures.value) c.in-UnderWay.is (sym c.element_at.ensures ∙ c.in_ok-request.ensures.ok_part) (sym c.in_ok-decided.ensures) done
