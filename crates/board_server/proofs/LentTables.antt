@@ -1,5 +1,5 @@
 -- The tables of a board's index, lent to a call and come back.
-use Rattle.std.proofs.Common.{◌≡◌, ℕ, List, length, drop, Ok, vec_items, vec_len, Result, Vec, sym, ap, ◌∙◌, subst, arith}
+use Rattle.std.proofs.Common.{◌≡◌, ℕ, List, length, drop, Ok, vec_items, vec_len, Result, Vec, sym, ap, ◌∙◌, subst, refl, arith}
 use Rattle.std.proofs.lemmas.List.{take-append-le, take_all}
 use Rattle.std.specs.Vec.{with_items}
 use Rattle.std.specs.declared.cmp.Ordering.{Ordering}
@@ -7,6 +7,8 @@ use Rattle.calls.specs.declared.call.Call.{Call}
 use Rattle.calls.specs.declared.fault.IndexFault.{IndexFault}
 use Rattle.calls.specs.declared.reply.Reply.{Reply}
 use Rattle.keys.specs.Hashes.{Hash}
+use Rattle.keys.specs.Ranks.{LawfulKind}
+use Rattle.rules.proofs.LawOfRuns.{make_law}
 use Rattle.rules.specs.Making.{make}
 use Rattle.rules.specs.RunLaw.{GoesOn, Starts}
 use Rattle.rules.specs.States.{State, state}
@@ -34,13 +36,6 @@ module _ {K V : Type 0} (order : K → K → Ordering) (digest : K → Hash) (ca
       subst (λ (s : State K V). GoesOn order digest s (record { call = call; reply = r }) after) before
       (subst (λ (s : State K V). GoesOn order digest lent (record { call = call; reply = r }) s) (sym behind) law)
 
--- a making in tables filled with one key and value is accepted
-module _ {K V : Type 0} (key : K) (value : V) (r : Result (Unit {0}) IndexFault) {lent left after : State K V} (before : lent ≡ filled key value) (behind : after ≡ left) (making : (r, left) ≡ make 4 lent) where
-  made_new : (r, left) ≡ make 4 (filled key value)
-  made_new = making ∙ ap (make 4) before
-
-  pub new_state_made : after ≡ new_state key value
-  new_state_made = behind ∙ ap (λ d. d.1) made_new
-
-  pub new_starts : (order : K → K → Ordering) (digest : K → Hash) → (r ≡ Ok tt → Starts order digest left) → Starts order digest after
-  new_starts order digest starts = subst (λ (s : State K V). Starts order digest s) (sym behind) (starts (ap (λ d. d.0) made_new))
+-- an index made new is where a run starts
+pub new_starts : {K V : Type 0} (order : K → K → Ordering) (digest : K → Hash) → LawfulKind order digest → (key : K) (value : V) → Starts order digest (new_state key value)
+new_starts order digest kind key value = make_law order digest kind 4 (filled key value) (new_state key value) (Ok tt) refl refl

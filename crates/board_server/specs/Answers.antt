@@ -6,8 +6,13 @@ use Rattle.calls.specs.declared.reply.Reply.{Reply}
 use Rattle.calls.specs.declared.reply.Reply.TheVariants.{Begun, Turned, Collected, Abandoned}
 use Rattle.lines.specs.declared.fault.Place.{Place}
 use Rattle.lines.specs.declared.berths.Sailing.{Sailing}
+use Rattle.text.specs.Kept.{added}
 use Rattle.board_server.specs.declared.fault.BoardFault.{BoardFault}
 use Rattle.board_server.specs.Faults.{board_number, board_place}
+
+-- the answers of a stream, up to 65536 bytes, with more behind them
+abbrev pub appended : List ℕ → List ℕ → List ℕ
+appended = added 65536
 
 -- the fields of the berth board's values; a ship board's value is a number
 abbrev pub sailing_text : Sailing → List ℕ

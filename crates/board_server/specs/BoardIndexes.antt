@@ -6,7 +6,7 @@ use Rattle.tables.specs.declared.item.Item.{Item}
 use Rattle.tables.specs.declared.item.ItemState.TheVariants.{Out}
 use Rattle.board_server.specs.declared.board_index.BoardIndex.{BoardIndex}
 
-abbrev pub state_of : {B K V : Type 0} → BoardIndex B K V → State K V
+abbrev pub state_of : {B K V : Type 0} {board : _} {key : _} → BoardIndex B K V board key → State K V
 state_of i = state i.record.core (vec_items i.heads) (vec_items i.items) (vec_items i.requests)
 
 -- an item that was never made

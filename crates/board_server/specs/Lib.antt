@@ -1,4 +1,3 @@
-pub mod RunEnds
 pub mod Faults
 pub mod Soundness
 pub mod BoardIndexes

@@ -14,13 +14,12 @@ use Rattle.lines.specs.Boards.{message_of}
 use Rattle.rules.specs.RunLaw.{GoesOn}
 use Rattle.rules.specs.States.{State, Outcome}
 use Rattle.rules.specs.Steps.{step}
-use Rattle.text.specs.Kept.{appended}
 use Rattle.board_server.specs.declared.fault.BoardFault.{BoardFault}
 use Rattle.board_server.specs.declared.fault.BoardFault.TheVariants.{Line, Index}
 use Rattle.board_server.specs.declared.answer.Answer.{Answer}
 use Rattle.board_server.specs.declared.answer.Answer.TheVariants.{Berths, Ships}
 use Rattle.board_server.specs.declared.server.Server.{Server}
-use Rattle.board_server.specs.Answers.{sailing_text, reply_text, fault_text}
+use Rattle.board_server.specs.Answers.{appended, sailing_text, reply_text, fault_text}
 use Rattle.board_server.specs.BoardIndexes.{state_of, new_state}
 use Rattle.board_server.specs.Soundness.{IsSound}
 

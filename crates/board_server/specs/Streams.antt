@@ -1,21 +1,11 @@
 -- Bytes in, answer lines out.
-use Rattle.std.specs.Prelude.{ℕ, Bool, cond, not, List, [], ◌∷◌, ◌++◌, length, fold, ◌==◌, nat_le}
-use Rattle.board_server.specs.RunEnds.{run_end}
-use Rattle.text.specs.Kept.{kept_page, added}
-use Rattle.text.specs.KeptLines.{kept_line}
-use Rattle.board_server.specs.declared.stream.Stream.{Stream}
-use Rattle.board_server.specs.Served.{Boards, boards_of, new_boards, served}
+use Rattle.std.specs.Prelude.{ℕ, Bool, cond, List, [], ◌∷◌, ◌++◌, length, fold, ◌==◌, nat_le}
+use Rattle.text.specs.Kept.{added}
+use Rattle.board_server.specs.Served.{Boards, new_boards, served}
 
 -- byte 10 ends a line
 abbrev pub is_end : ℕ → Bool
 is_end b = b == 10
-
-abbrev pub is_in_line : ℕ → Bool
-is_in_line b = not (is_end b)
-
--- where the line that goes on at byte i ends: at the next byte 10, or where the bytes end
-abbrev pub line_end : List ℕ → ℕ → ℕ
-line_end bytes i = run_end 10 bytes i
 
 -- the boards, the line that is being read, and the answers so far
 pub record Streamed : Type 0 where
@@ -25,9 +15,6 @@ pub record Streamed : Type 0 where
 
 abbrev pub streamed : Boards → List ℕ → List ℕ → Streamed
 streamed b line text = record { boards = b; line = line; text = text }
-
-abbrev pub stream_of : Stream → Streamed
-stream_of s = streamed (boards_of s.server) (kept_line s.line) (kept_page s.text)
 
 abbrev pub new_stream : Streamed
 new_stream = streamed new_boards [] []

@@ -1,15 +1,14 @@
 ghost use Rattle.std.specs.Prelude.{◌≡◌, ◌≤◌, length};
-ghost use Rattle.text.specs.Kept.{kept_page, appended};
-ghost use Rattle.board_server.specs.Answers.{turn_text, collect_text, reply_text, fault_text};
+ghost use Rattle.board_server.specs.Answers.{appended, turn_text, collect_text, reply_text, fault_text};
 
 use crate::fault::BoardFault;
 use crate::show::ShowValue;
 use calls::reply::{Progress, Reply};
 use lines::berths::Sailing;
-use text::page::Page;
+use text::Page;
 
 // What an accepted call was replied, by its board.
-#[derive(Clone, Copy)]
+#[derive(Clone, Copy, Debug, PartialEq, Eq)]
 pub enum Answer {
     Berths(Reply<Sailing>),
     Ships(Reply<u16>),
@@ -28,8 +27,9 @@ fn turn_words(progress: Progress) -> &'static [u8]
     }
 }
 
+#[tactic(auto, using(text::proofs::Adding::added_twice))]
 fn put_collected<V: ShowValue>(value: Option<V>, out: &mut Page)
-    ensures text { kept_page out.new ≡ appended (kept_page out.old) (collect_text V.ShowValue.shown value) }
+    ensures text { out.new ≡ appended out.old (collect_text V.ShowValue.shown value) }
     ensures short { length (collect_text V.ShowValue.shown value) ≤ 27 }
 {
     match value {
@@ -43,7 +43,7 @@ fn put_collected<V: ShowValue>(value: Option<V>, out: &mut Page)
 
 // The text of an accepted call's reply.
 pub fn put_reply<V: ShowValue>(reply: Reply<V>, out: &mut Page)
-    ensures text { kept_page out.new ≡ appended (kept_page out.old) (reply_text V.ShowValue.shown reply) }
+    ensures text { out.new ≡ appended out.old (reply_text V.ShowValue.shown reply) }
     ensures short { length (reply_text V.ShowValue.shown reply) ≤ 27 }
 {
     match reply {
@@ -55,15 +55,16 @@ pub fn put_reply<V: ShowValue>(reply: Reply<V>, out: &mut Page)
 }
 
 // The text of a refusal.
+#[tactic(auto, using(text::proofs::Adding::added_twice))]
 pub fn put_fault(fault: BoardFault, out: &mut Page)
-    ensures text { kept_page out.new ≡ appended (kept_page out.old) (fault_text fault) }
+    ensures text { out.new ≡ appended out.old (fault_text fault) }
     ensures short { length (fault_text fault) ≤ 48 }
 {
     let place = fault.place();
     out.push_bytes(b"no,");
-    out.push_number(fault.number() as u64);
+    out.push_number(fault.number());
     out.push(b',');
-    out.push_number(place.field as u64);
+    out.push_number(place.field);
     out.push(b',');
-    out.push_number(place.byte as u64);
+    out.push_number(place.byte);
 }

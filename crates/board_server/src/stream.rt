@@ -1,12 +1,13 @@
-ghost use Rattle.std.specs.Prelude.{◌≡◌, ◌-◌, ◌<◌, ◌≤◌, true, [], length, take, drop, IfOk};
+ghost use Rattle.std.specs.Prelude.{◌≡◌, ◌<◌, ◌≤◌, true, None, [], ◌∷◌, ◌++◌, length, take, IfOk};
+ghost use Rattle.memchr.specs.Find.{IsFirstByte, is_byte};
 ghost use Rattle.board_server.specs.Served.{Sounds};
-ghost use Rattle.board_server.specs.Streams.{stream_of, new_stream, with_line, line_ended, fed, has_room, finished, cleared};
+ghost use Rattle.board_server.specs.Streams.{new_stream, fed, has_room, finished, cleared};
 
-use crate::cutting::line_end;
 use crate::server::Server;
+use memchr::memchr;
 use std::alloc::{AllocError, Global};
-use text::line::Line;
-use text::page::Page;
+use std::marker::Model;
+use text::{Line, Page};
 
 // How long the answers may get before they are to be written out: what is left holds one more.
 const FULL: usize = 65472;
@@ -22,10 +23,19 @@ pub struct Stream {
     text: Page,
 }
 
+// Clauses see the states of the boards, the bytes of the line and those of the answers.
+impl Model for Stream {
+    ghost use Rattle.board_server.specs.Served.{boards_of};
+    ghost use Rattle.board_server.specs.Streams.{Streamed, streamed};
+
+    ghost Value = { Streamed };
+
+    ghost view = { λ s. streamed (boards_of s.server) s.line s.text };
+}
+
 impl Stream {
     pub fn new(alloc: Global) -> Result<Stream, AllocError>
-        ensures value { IfOk result (λ s. stream_of s ≡ new_stream) }
-        ensures sound { IfOk result (λ s. Sounds (stream_of s).boards) }
+        ensures { IfOk result (λ s. s ≡ new_stream) }
     {
         let server = Server::new(alloc)?;
         Ok(Stream {
@@ -35,89 +45,86 @@ impl Stream {
         })
     }
 
-    // The answers so far.
+    // The answers so far. Whatever stream is at hand, both its boards are sound.
     pub fn text(&self) -> &[u8]
-        ensures { result.now ≡ (stream_of self.now).text }
+        ensures value { result.now ≡ self.now.text }
+        ensures sound { Sounds self.now.boards }
     {
         self.text.as_bytes()
     }
 
     // Forgets the answers, once they are written out.
     pub fn clear(&mut self)
-        ensures { stream_of self.new ≡ cleared (stream_of self.old) }
+        ensures { self.new ≡ cleared self.old }
     {
         self.text.clear();
     }
 
     fn has_room(&self) -> bool
-        ensures { result ≡ has_room (stream_of self.now) }
+        ensures { result ≡ has_room self.now }
     {
         self.text.as_bytes().len() <= FULL
     }
 
-    // Answers a line that is at hand whole, where none had been begun.
-    fn answer_line(&mut self, line: &[u8])
-        requires room { has_room (stream_of self.old) ≡ true }
-        requires new { (stream_of self.old).line ≡ [] }
-        ensures { stream_of self.new ≡ line_ended (with_line line.now (stream_of self.old)) }
+    // Takes in what a line still lacks and the byte 10 that ends it, and answers it.
+    fn end_line(&mut self, last: &[u8])
+        requires inside { IsFirstByte (is_byte 10) last.now None }
+        requires room { has_room self.old ≡ true }
+        ensures { self.new ≡ fed self.old (last.now ++ 10 ∷ []) }
     {
-        self.server.answer(line, &mut self.text);
+        if self.line.as_bytes().is_empty() {
+            // a line that is at hand whole is answered from where it lies
+            let line = &last[..last.len().min(LINE_BYTES)];
+            self.server.answer(line, &mut self.text);
+        } else {
+            self.line.push_bytes(last);
+            self.server.answer(self.line.as_bytes(), &mut self.text);
+            self.line.clear();
+        }
         self.text.push(b'\n');
     }
 
-    // Answers the line that has been read.
-    fn end_line(&mut self)
-        requires { has_room (stream_of self.old) ≡ true }
-        ensures { stream_of self.new ≡ line_ended (stream_of self.old) }
+    // Takes in the bytes up to and with the next byte 10, or all of them, and says how many.
+    fn feed_line(&mut self, bytes: &[u8]) -> usize
+        requires some { 0 < length bytes.now }
+        requires room { has_room self.old ≡ true }
+        ensures fed { self.new ≡ fed self.old (take result bytes.now) }
+        ensures bound { (0 < result) × (result ≤ length bytes.now) }
     {
-        self.server.answer(self.line.as_bytes(), &mut self.text);
-        self.text.push(b'\n');
-        self.line.clear();
-    }
-
-    // Takes in the bytes from a place on, up to and with the next byte 10, and says where they end.
-    fn feed_line(&mut self, bytes: &[u8], from: usize) -> usize
-        requires within { from < length bytes.now }
-        requires room { has_room (stream_of self.old) ≡ true }
-        ensures fed { stream_of self.new ≡ fed (stream_of self.old) (take (result - from) (drop from bytes.now)) }
-        ensures bound { (from < result) × (result ≤ length bytes.now) }
-    {
-        let end = line_end(bytes, from);
-        if end < bytes.len() && self.line.as_bytes().is_empty() {
-            self.answer_line(&bytes[from..end.min(from + LINE_BYTES)]);
-            return end + 1;
+        match memchr(b'\n', bytes) {
+            Some(end) => {
+                self.end_line(&bytes[..end]);
+                end + 1
+            }
+            None => {
+                self.line.push_bytes(bytes);
+                bytes.len()
+            }
         }
-        self.line.push_bytes(&bytes[from..end]);
-        if end == bytes.len() {
-            return end;
-        }
-        self.end_line();
-        end + 1
     }
 
     // Takes in bytes, all of them unless the answers run out of room, and says how many. Where there is
     // room to begin with, it is at least one.
     pub fn feed(&mut self, bytes: &[u8]) -> usize
-        ensures fed { stream_of self.new ≡ fed (stream_of self.old) (take result bytes.now) }
+        ensures fed { self.new ≡ fed self.old (take result bytes.now) }
         ensures bound { result ≤ length bytes.now }
-        ensures all { has_room (stream_of self.new) ≡ true → result ≡ length bytes.now }
-        ensures some { has_room (stream_of self.old) ≡ true → 0 < length bytes.now → 0 < result }
-        ensures sound { Sounds (stream_of self.new).boards }
+        ensures all { has_room self.new ≡ true → result ≡ length bytes.now }
+        ensures some { has_room self.old ≡ true → 0 < length bytes.now → 0 < result }
     {
-        let mut from = 0;
-        while from < bytes.len() && self.has_room() {
-            from = self.feed_line(bytes, from);
+        let mut rest = bytes;
+        while !rest.is_empty() && self.has_room() {
+            let count = self.feed_line(rest);
+            rest = &rest[count..];
         }
-        from
+        bytes.len() - rest.len()
     }
 
     // The input has ended: a last line that lacks its byte 10 is answered too, if there is room.
     pub fn finish(&mut self)
-        ensures value { stream_of self.new ≡ finished (stream_of self.old) }
-        ensures sound { Sounds (stream_of self.new).boards }
+        ensures { self.new ≡ finished self.old }
     {
         if !self.line.as_bytes().is_empty() && self.has_room() {
-            self.end_line();
+            self.end_line(&[]);
         }
     }
 }

@@ -2,7 +2,7 @@
 #![tactic(auto)]
 
 ghost use Rattle.std.specs.Prelude.{◌≡◌, OnOk};
-ghost use Rattle.board_server.specs.Streams.{stream_of, fed, cleared};
+ghost use Rattle.board_server.specs.Streams.{fed, cleared};
 
 use board_server::stream::Stream;
 use std::io;
@@ -11,13 +11,14 @@ use std::io::{Read, Write};
 // Takes in a part of the input, every byte once and in order, and writes out the answers whenever
 // their room is full, and at the end.
 fn pass<W: Write>(stream: &mut Stream, bytes: &[u8], out: &mut W) -> io::Result<()>
-    ensures { OnOk result (cleared (stream_of stream.new) ≡ cleared (fed (stream_of stream.old) bytes.now)) }
+    ensures { OnOk result (cleared stream.new ≡ cleared (fed stream.old bytes.now)) }
 {
-    let mut from = 0;
-    while from < bytes.len() {
+    let mut rest = bytes;
+    while !rest.is_empty() {
         stream.clear();
-        from += stream.feed(&bytes[from..]);
+        let count = stream.feed(rest);
         out.write_all(stream.text())?;
+        rest = &rest[count..];
     }
     Ok(())
 }

@@ -1,9 +1,11 @@
-use Rattle.std.proofs.Common.{◌≡◌, ◌-◌, ◌≤◌, length, take}
-use Rattle.board_server.specs.Streams.{stream_of, fed, cleared}
+use Rattle.std.proofs.Common.{◌≡◌, ◌-◌, ◌≤◌, length, take, drop}
+use Rattle.board_server.specs.Streams.{fed, cleared}
 use Rattle.boards.proofs.pass.Given as goal
 
-abbrev pub invariant-loop-from : goal.invariant-loop-from
-invariant-loop-from g l = (l.from ≤ length l.bytes) × (cleared (stream_of l.stream) ≡ cleared (fed (stream_of l.initial.stream) (take l.from l.bytes)))
+-- what is left of the bytes, and that the others have come in
+abbrev pub invariant-loop-rest : goal.invariant-loop-rest
+invariant-loop-rest g l =
+    (length l.rest ≤ length l.bytes) × (l.rest ≡ drop (length l.bytes - length l.rest) l.bytes) × (cleared l.stream ≡ cleared (fed l.initial.stream (take (length l.bytes - length l.rest) l.bytes)))
 
-abbrev pub decreases-loop-from : goal.decreases-loop-from
-decreases-loop-from g l = length l.bytes - l.from
+abbrev pub decreases-loop-rest : goal.decreases-loop-rest
+decreases-loop-rest g l = length l.rest

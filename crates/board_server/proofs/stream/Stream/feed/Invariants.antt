@@ -1,9 +1,11 @@
-use Rattle.std.proofs.Common.{◌≡◌, ◌-◌, ◌≤◌, length, take}
-use Rattle.board_server.specs.Streams.{stream_of, fed}
+use Rattle.std.proofs.Common.{◌≡◌, ◌-◌, ◌≤◌, length, take, drop}
+use Rattle.board_server.specs.Streams.{fed}
 use Rattle.board_server.proofs.stream.Stream.feed.Given as goal
 
-abbrev pub invariant-loop-from : goal.invariant-loop-from
-invariant-loop-from l = (stream_of l.self ≡ fed (stream_of l.initial.self) (take l.from l.bytes)) × (l.from ≤ length l.bytes)
+-- what is left of the bytes, and that the others have come in
+abbrev pub invariant-loop-self : goal.invariant-loop-self
+invariant-loop-self l =
+    (length l.rest ≤ length l.bytes) × (l.rest ≡ drop (length l.bytes - length l.rest) l.bytes) × (l.self ≡ fed l.initial.self (take (length l.bytes - length l.rest) l.bytes))
 
-abbrev pub decreases-loop-from : goal.decreases-loop-from
-decreases-loop-from l = length l.bytes - l.from
+abbrev pub decreases-loop-self : goal.decreases-loop-self
+decreases-loop-self l = length l.rest
