@@ -1,5 +1,7 @@
-use crate::dice::Dice;
-use crate::lent::{HEADS, ITEMS, Lent, NONE, REQUESTS};
+ghost use Rattle.std.specs.Prelude.{◌<◌, ◌≤◌};
+
+use crate::lent::{Lent, NONE};
+use dice::Dice;
 use keys::berth::Berth;
 use tables::item::{Item, ItemState};
 use tables::request::Request;
@@ -12,6 +14,9 @@ pub struct Manner {
     pub places: u32,
     pub keys: u32,
     pub wild: u32,
+    ghost places_fit: { (0 < places) × (places ≤ 14) },
+    ghost buckets_fit: { (0 < buckets) × (buckets ≤ 10) },
+    ghost keys_fit: { (0 < keys) × (keys ≤ 10) },
 }
 
 // Few keys, so that they meet. The first two and the last have one hash; from one head bit on the third
@@ -61,8 +66,7 @@ const KEYS: [Berth; 10] = [
 
 impl Manner {
     pub fn key(self, dice: &mut Dice) -> Berth {
-        let i = dice.below(self.keys) as usize;
-        if i < 10 { KEYS[i] } else { KEYS[0] }
+        KEYS[dice.below(self.keys) as usize]
     }
 
     // A head or a next.
@@ -71,9 +75,9 @@ impl Manner {
             return dice.below(self.places);
         }
         match dice.below(6) {
-            0 => self.places.wrapping_sub(1),
+            0 => self.places - 1,
             1 => self.places,
-            2 => self.places.wrapping_add(1),
+            2 => self.places + 1,
             3 => NONE - 1,
             4 => NONE,
             _ => dice.roll(),
@@ -99,33 +103,37 @@ impl Manner {
 
     // Writes over everything.
     pub fn fill(self, lent: &mut Lent, dice: &mut Dice) {
-        for i in 0..REQUESTS {
-            lent.requests[i] = self.request(dice);
-            if i < HEADS {
-                lent.heads[i] = self.place(dice);
+        for (i, request) in lent.requests.iter_mut().enumerate() {
+            *request = self.request(dice);
+            if let Some(head) = lent.heads.get_mut(i) {
+                *head = self.place(dice);
             }
-            if i < ITEMS {
-                lent.items[i] = self.item(dice);
+            if let Some(item) = lent.items.get_mut(i) {
+                *item = self.item(dice);
             }
         }
     }
 
     // Writes over one part of one element.
     pub fn harm(self, lent: &mut Lent, dice: &mut Dice) {
-        let place = dice.below(self.places);
-        let mut item = lent.item(place);
+        let place = dice.below(self.places) as usize;
         match dice.below(8) {
-            0 => item.state = any_state(dice),
-            1 => item.key = self.key(dice),
-            2 => item.value = dice.roll(),
-            3 => item.next = self.place(dice),
-            4 => item.occupied = dice.once_in(2),
+            0 => lent.items[place].state = any_state(dice),
+            1 => lent.items[place].key = self.key(dice),
+            2 => lent.items[place].value = dice.roll(),
+            3 => lent.items[place].next = self.place(dice),
+            4 => lent.items[place].occupied = dice.once_in(2),
             // two of one kind: key, next and all
-            5 => item = lent.item(dice.below(self.places)),
-            6 => lent.put_head(dice.below(self.buckets) as usize, self.place(dice)),
-            _ => lent.put_request((dice.below(16) & 15) as u8, self.request(dice)),
+            5 => lent.items[place] = lent.items[dice.below(self.places) as usize],
+            6 => {
+                let bucket = dice.below(self.buckets) as usize;
+                lent.heads[bucket] = self.place(dice);
+            }
+            _ => {
+                let session = dice.below(16) as usize;
+                lent.requests[session] = self.request(dice);
+            }
         }
-        lent.put_item(place, item);
     }
 }
 

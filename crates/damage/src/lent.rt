@@ -1,4 +1,4 @@
-ghost use Rattle.std.specs.Prelude.{◌≡◌, ◌≤◌, T};
+ghost use Rattle.std.specs.Prelude.{◌≡◌, ◌≤◌, ◌↔◌, IsTrue};
 
 use keys::berth::Berth;
 use tables::item::{Item, ItemState};
@@ -11,11 +11,11 @@ pub const ITEMS: usize = 14;
 pub const REQUESTS: usize = 18;
 
 // The word of the head table that stands for no head.
-pub const NONE: u32 = 4294967295;
+pub const NONE: u32 = u32::MAX;
 
 // The three tables, each with more room than an index of this program needs, so that a call can be
 // handed too little or too much of one. The request table is the longest.
-#[derive(Clone, Copy)]
+#[derive(Clone, Copy, PartialEq, Eq)]
 pub struct Lent {
     pub heads: [u32; HEADS],
     pub items: [Item<Berth, u32>; ITEMS],
@@ -48,7 +48,7 @@ pub const UNUSED: Lent = Lent {
 };
 
 // How much of each table a call is handed: never more than there is.
-#[derive(Clone, Copy)]
+#[derive(Clone, Copy, PartialEq, Eq)]
 pub struct Lengths {
     pub heads: usize,
     pub items: usize,
@@ -66,122 +66,50 @@ impl Lengths {
     }
 }
 
-fn same_key(a: Berth, b: Berth) -> bool
-    ensures told { T result → a ≡ b }
-    ensures seen { a ≡ b → T result }
-{
-    a.harbour == b.harbour && a.berth == b.berth
-}
-
-fn same_state(a: ItemState, b: ItemState) -> bool
-    ensures told { T result → a ≡ b }
-    ensures seen { a ≡ b → T result }
-{
-    match (a, b) {
-        (ItemState::Out, ItemState::Out) => true,
-        (ItemState::SetAside, ItemState::SetAside) => true,
-        (ItemState::InRing, ItemState::InRing) => true,
-        _ => false,
+impl Lent {
+    // Whether all three tables agree, element by element.
+    pub fn same(&self, other: &Lent) -> bool
+        ensures { IsTrue result ↔ (self.now ≡ other.now) }
+    {
+        self == other
     }
-}
-
-fn same_item(a: Item<Berth, u32>, b: Item<Berth, u32>) -> bool
-    ensures told { T result → a ≡ b }
-    ensures seen { a ≡ b → T result }
-{
-    same_state(a.state, b.state)
-        && same_key(a.key, b.key)
-        && a.value == b.value
-        && a.next == b.next
-        && a.occupied == b.occupied
-}
-
-fn same_request(a: Request<Berth, u32>, b: Request<Berth, u32>) -> bool
-    ensures told { T result → a ≡ b }
-    ensures seen { a ≡ b → T result }
-{
-    same_key(a.key, b.key) && a.value == b.value
 }
 
 // Reads and writes of one element. Nothing outside the tables is ever asked for; the tests are there
 // for the proof.
 impl Lent {
     pub fn item(&self, place: u32) -> Item<Berth, u32> {
-        let i = place as usize;
-        if i < ITEMS { self.items[i] } else { NO_ITEM }
+        self.items.get(place as usize).copied().unwrap_or(NO_ITEM)
     }
 
-    pub fn put_item(&mut self, place: u32, item: Item<Berth, u32>) {
-        let i = place as usize;
-        if i < ITEMS {
-            self.items[i] = item;
+    pub fn change_item<F: FnOnce(&mut Item<Berth, u32>) + Drop>(&mut self, place: u32, change: F)
+        requires { F.IsAlwaysCallable change }
+    {
+        if let Some(item) = self.items.get_mut(place as usize) {
+            change(item);
         }
     }
 
-    pub fn put_state(&mut self, place: u32, state: ItemState) {
-        let i = place as usize;
-        if i < ITEMS {
-            self.items[i].state = state;
-        }
+    pub fn head(&self, home: usize) -> u32 {
+        self.heads.get(home).copied().unwrap_or(NONE)
     }
 
-    pub fn put_next(&mut self, place: u32, next: u32) {
-        let i = place as usize;
-        if i < ITEMS {
-            self.items[i].next = next;
-        }
-    }
-
-    pub fn put_mark(&mut self, place: u32, occupied: bool) {
-        let i = place as usize;
-        if i < ITEMS {
-            self.items[i].occupied = occupied;
-        }
-    }
-
-    pub fn head(&self, bucket: usize) -> u32 {
-        if bucket < HEADS {
-            self.heads[bucket]
-        } else {
-            NONE
-        }
-    }
-
-    pub fn put_head(&mut self, bucket: usize, head: u32) {
-        if bucket < HEADS {
-            self.heads[bucket] = head;
+    pub fn put_head(&mut self, home: usize, head: Option<u32>) {
+        if let Some(word) = self.heads.get_mut(home) {
+            *word = head.unwrap_or(NONE);
         }
     }
 
     pub fn request(&self, session: u8) -> Request<Berth, u32> {
-        let i = session as usize;
-        if i < REQUESTS {
-            self.requests[i]
-        } else {
-            NO_REQUEST
-        }
+        self.requests
+            .get(session as usize)
+            .copied()
+            .unwrap_or(NO_REQUEST)
     }
 
     pub fn put_request(&mut self, session: u8, request: Request<Berth, u32>) {
-        let i = session as usize;
-        if i < REQUESTS {
-            self.requests[i] = request;
+        if let Some(old) = self.requests.get_mut(session as usize) {
+            *old = request;
         }
-    }
-
-    // Whether all three tables agree, element by element.
-    pub fn same(&self, other: &Lent) -> bool {
-        for i in 0..REQUESTS {
-            if i < HEADS && self.heads[i] != other.heads[i] {
-                return false;
-            }
-            if i < ITEMS && !same_item(self.items[i], other.items[i]) {
-                return false;
-            }
-            if !same_request(self.requests[i], other.requests[i]) {
-                return false;
-            }
-        }
-        true
     }
 }

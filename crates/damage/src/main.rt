@@ -4,7 +4,7 @@
 
 mod answer;
 mod ask;
-mod dice;
+mod count;
 mod hostile;
 mod lent;
 mod rank;

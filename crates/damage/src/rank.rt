@@ -14,20 +14,32 @@ fn hash(key: Berth) -> u32
 fn unit(bits: u8) -> u32
     ensures { 0 < result }
 {
-    (65536 >> bits.min(16)).max(1)
+    1 << (16 - bits.min(16))
 }
 
 pub fn bucket(bits: u8, key: Berth) -> usize {
     (hash(key) / unit(bits)) as usize
 }
 
-// A key's place in the order of ranks, as one number: its tag, then harbour, then berth.
-pub fn rank(bits: u8, key: Berth) -> u64 {
-    let tag = hash(key) % unit(bits);
-    ((tag as u64) << 32) + ((key.harbour as u64) << 16) + key.berth as u64
+// A key's place in the order of ranks: by its tag, then harbour, then berth.
+#[derive(Clone, Copy, Debug, PartialEq, Eq, PartialOrd, Ord)]
+pub struct Rank {
+    tag: u32,
+    harbour: u16,
+    berth: u16,
 }
 
-// Whether `q` falls between the ranks of an item and its next.
-pub fn falls_between(c: u64, q: u64, m: u64) -> bool {
-    c < q && q < m || q < m && m <= c || m <= c && c < q
+impl Rank {
+    pub fn new(bits: u8, key: Berth) -> Rank {
+        Rank {
+            tag: hash(key) % unit(bits),
+            harbour: key.harbour,
+            berth: key.berth,
+        }
+    }
+
+    // Whether it falls between the ranks of an item and its next.
+    pub fn falls_between(self, c: Rank, m: Rank) -> bool {
+        c < self && self < m || self < m && m <= c || m <= c && c < self
+    }
 }

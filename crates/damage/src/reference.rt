@@ -1,39 +1,50 @@
-use crate::answer::Answer;
-use crate::lent::{HEADS, ITEMS, Lengths, Lent, NONE};
+use crate::lent::{Lengths, Lent, NONE};
+use calls::call::Action;
+use calls::fault::IndexFault;
 use calls::operation::Operation;
+use calls::reply::Reply;
+use keys::berth::Berth;
 use tables::item::ItemState;
 
+// What a session under way is at, with each place that it may have.
 #[derive(Clone, Copy)]
-pub enum Phase {
-    Idle,
-    UnderWay,
-    Ended,
-}
-
-// A session, with a field for each thing that it may have. `present` is for one that has ended.
-#[derive(Clone, Copy)]
-pub struct Seat {
-    pub phase: Phase,
+pub struct Work {
     pub operation: Operation,
     pub cursor: Option<u32>,
     pub aside: Option<u32>,
     pub claim: Option<u32>,
-    pub present: bool,
+}
+
+#[derive(Clone, Copy)]
+pub enum Phase {
+    Idle,
+    UnderWay(Work),
+    Ended { present: bool },
+}
+
+// A session.
+#[derive(Clone, Copy)]
+pub struct Seat {
+    pub phase: Phase,
     pub finds: u8,
 }
 
 const NEW_SEAT: Seat = Seat {
     phase: Phase::Idle,
-    operation: Operation::Find,
-    cursor: None,
-    aside: None,
-    claim: None,
-    present: false,
     finds: 0,
 };
 
+impl Seat {
+    pub fn work(self) -> Option<Work> {
+        match self.phase {
+            Phase::UnderWay(work) => Some(work),
+            Phase::Idle | Phase::Ended { .. } => None,
+        }
+    }
+}
+
 // The rules of docs/RULES.md once more, written without regard to the index, to be compared with it:
-// record and tables in one, and a refusal is its number.
+// record and tables in one.
 #[derive(Clone, Copy)]
 pub struct Reference {
     pub made: Option<Lengths>,
@@ -56,16 +67,15 @@ impl Reference {
         }
     }
 
-    pub fn make(&mut self, lengths: Lengths, bits: u8) -> Result<Answer, u8> {
+    pub fn make(&mut self, lengths: Lengths, bits: u8) -> Result<(), IndexFault> {
         if bits > 8 {
-            return Err(7);
+            return Err(IndexFault::HeadBits);
         }
-        let buckets: usize = 1 << bits;
-        if lengths.heads != buckets || lengths.requests != 16 {
-            return Err(8);
-        }
-        if lengths.items == 0 || lengths.items > 4096 {
-            return Err(8);
+        if lengths.heads != 1 << bits
+            || lengths.requests != 16
+            || !(1..=4096).contains(&lengths.items)
+        {
+            return Err(IndexFault::TableLengths);
         }
         self.made = Some(lengths);
         self.bits = bits;
@@ -73,45 +83,70 @@ impl Reference {
         self.hand = self.places - 1;
         self.seats = [NEW_SEAT; 16];
         self.clear(lengths);
-        Ok(Answer::Made)
+        Ok(())
     }
 
     // Empties the tables, as far as they were handed in.
     fn clear(&mut self, lengths: Lengths) {
-        for i in 0..ITEMS {
-            if i < HEADS && i < lengths.heads {
-                self.tables.heads[i] = NONE;
+        self.tables.heads[..lengths.heads].fill(NONE);
+        for (place, item) in (0..self.places).zip(self.tables.items.iter_mut()) {
+            item.state = ItemState::Out;
+            item.next = place;
+            item.occupied = false;
+        }
+    }
+
+    // Any call but a making.
+    pub fn act(
+        &mut self,
+        lengths: Lengths,
+        session: u8,
+        action: Action<Berth, u32>,
+    ) -> Result<Reply<u32>, IndexFault> {
+        let seat = self.seat(lengths, session)?;
+        match action {
+            Action::Begin(task) => {
+                self.begin(session, seat, task)?;
+                Ok(Reply::Begun)
             }
-            if i < lengths.items {
-                self.tables.items[i].state = ItemState::Out;
-                self.tables.items[i].next = i as u32;
-                self.tables.items[i].occupied = false;
+            Action::Turn => Ok(Reply::Turned(self.turn(session, seat)?)),
+            Action::Collect => Ok(Reply::Collected(self.collect(session, seat)?)),
+            Action::Abandon => {
+                self.abandon(session, seat)?;
+                Ok(Reply::Abandoned)
             }
         }
     }
 
     // The session, where the call passes the checks that all but making begin with: 9 and 10.
-    pub fn seat(&self, lengths: Lengths, session: u8) -> Result<Seat, u8> {
-        let Some(made) = self.made else {
-            return Err(9);
-        };
-        if lengths.heads != made.heads || lengths.items != made.items || lengths.requests != 16 {
-            return Err(9);
+    fn seat(&self, lengths: Lengths, session: u8) -> Result<Seat, IndexFault> {
+        if self.made != Some(lengths) {
+            return Err(IndexFault::NotAsMade);
         }
-        let i = session as usize;
-        if i < 16 { Ok(self.seats[i]) } else { Err(10) }
+        self.seats
+            .get(session as usize)
+            .copied()
+            .ok_or(IndexFault::NoSession)
     }
 
     // The session, or the first where there is none of this number.
     pub fn any_seat(&self, session: u8) -> Seat {
-        let i = session as usize;
-        if i < 16 { self.seats[i] } else { self.seats[0] }
+        self.seats
+            .get(session as usize)
+            .copied()
+            .unwrap_or(self.seats[0])
     }
 
     pub fn put_seat(&mut self, session: u8, seat: Seat) {
-        let i = session as usize;
-        if i < 16 {
-            self.seats[i] = seat;
+        if let Some(old) = self.seats.get_mut(session as usize) {
+            *old = seat;
+        }
+    }
+
+    // The find count stays.
+    pub fn put_phase(&mut self, session: u8, phase: Phase) {
+        if let Some(seat) = self.seats.get_mut(session as usize) {
+            seat.phase = phase;
         }
     }
 }

@@ -1,12 +1,15 @@
+ghost use Rattle.std.specs.Prelude.{◌<◌, ◌≤◌};
+
 use crate::ask::{Ask, Deed};
-use crate::dice::Dice;
 use crate::hostile::Manner;
 use crate::lent::{Lengths, Lent, UNUSED};
 use crate::reference::Phase;
 use crate::tally::Tally;
 use crate::trial::Trial;
-use calls::call::Task;
+use calls::call::{Action, Task};
+use calls::fault::IndexFault;
 use calls::operation::Operation;
+use dice::Dice;
 use keys::berth::Berth;
 
 // One index and what it has to go through.
@@ -18,6 +21,7 @@ pub struct Round {
     sessions: u32,
     // how many calls to a damage, in the mean; 0 for none at all
     calls_to_harm: u32,
+    ghost sessions_fit: { (0 < sessions) × (sessions ≤ 16) },
 }
 
 fn any_operation(dice: &mut Dice) -> Operation {
@@ -52,8 +56,8 @@ fn spoiled(lengths: Lengths, dice: &mut Dice) -> Lengths {
 
 impl Round {
     fn draw(dice: &mut Dice, calls_to_harm: u32) -> Round {
-        let bits = (dice.below(4) & 3) as u8;
-        let places = dice.below(12).wrapping_add(1);
+        let bits = dice.below(4) as u8;
+        let places = dice.below(12) + 1;
         let buckets: usize = 1 << bits;
         // few sessions get far, many meet
         let most = if dice.once_in(2) { 3 } else { 16 };
@@ -63,10 +67,10 @@ impl Round {
             manner: Manner {
                 buckets: 1 << bits,
                 places,
-                keys: dice.below(9).wrapping_add(2),
+                keys: dice.below(9) + 2,
                 wild: if dice.once_in(16) { 16 } else { dice.below(4) },
             },
-            sessions: dice.below(most).wrapping_add(1),
+            sessions: dice.below(most) + 1,
             calls_to_harm,
         }
     }
@@ -84,23 +88,31 @@ impl Round {
         if dice.once_in(6) {
             return match dice.below(16) {
                 // few makings are accepted
-                0 => Deed::Make((dice.below(12) & 15) as u8),
-                1..=4 => Deed::Abandon,
-                5..=8 => Deed::Collect,
-                9..=12 => Deed::Begin(self.task(dice)),
-                _ => Deed::Turn,
+                0 => Deed::Make(dice.below(12) as u8),
+                1..=4 => Deed::Act(Action::Abandon),
+                5..=8 => Deed::Act(Action::Collect),
+                9..=12 => Deed::Act(Action::Begin(self.task(dice))),
+                _ => Deed::Act(Action::Turn),
             };
         }
-        match phase {
-            Phase::Idle => Deed::Begin(self.task(dice)),
-            Phase::UnderWay => Deed::Turn,
-            Phase::Ended => Deed::Collect,
+        Deed::Act(match phase {
+            Phase::Idle => Action::Begin(self.task(dice)),
+            Phase::UnderWay(_) => Action::Turn,
+            Phase::Ended { .. } => Action::Collect,
+        })
+    }
+
+    // The number of a session, or, once in a while, of none.
+    fn session(self, dice: &mut Dice) -> u8 {
+        if dice.once_in(32) {
+            dice.below(18) as u8
+        } else {
+            dice.below(self.sessions) as u8
         }
     }
 
     fn ask(self, trial: &Trial, dice: &mut Dice) -> Ask {
-        let most = if dice.once_in(32) { 18 } else { self.sessions };
-        let session = (dice.below(most) & 31) as u8;
+        let session = self.session(dice);
         let lengths = if dice.once_in(48) {
             spoiled(self.lengths, dice)
         } else {
@@ -160,9 +172,9 @@ pub fn run_round(number: u32, tally: &mut Tally) {
     let round = Round::draw(&mut dice, calls_to_harm);
     let mut tables = UNUSED;
     round.manner.fill(&mut tables, &mut dice);
-    let outside = tally.refusals[16];
+    let outside = tally.refused(IndexFault::OutsideTable);
     round.run(tables, &mut dice, tally);
     if calls_to_harm == 0 {
-        tally.count_undamaged(tally.refusals[16] == outside);
+        tally.count_undamaged(tally.refused(IndexFault::OutsideTable) == outside);
     }
 }

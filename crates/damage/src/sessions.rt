@@ -1,120 +1,100 @@
-use crate::answer::Answer;
-use crate::lent::Lengths;
-use crate::reference::{Phase, Reference, Seat};
+use crate::reference::{Phase, Reference, Seat, Work};
 use calls::call::Task;
+use calls::fault::IndexFault;
 use calls::operation::Operation;
 use keys::berth::Berth;
-use tables::item::ItemState;
+use tables::item::{Item, ItemState};
 use tables::request::Request;
 
 // Begin, collect and abandon: sections 8, 9, 11 and 12 of docs/RULES.md.
 impl Reference {
     fn is_stood_on(&self, place: u32) -> bool {
-        for seat in self.seats.iter() {
-            if let Phase::UnderWay = seat.phase
-                && seat.cursor == Some(place)
-            {
-                return true;
-            }
-        }
-        false
+        self.seats.iter().any(|seat| { seat.work().is_some_and(|work| work.cursor == Some(place)) })
+    }
+
+    fn is_free(&self, place: u32) -> bool {
+        self.tables.item(place).state == ItemState::Out && !self.is_stood_on(place)
     }
 
     // The first free place after the hand, round to the hand itself.
     fn free_place(&self) -> Option<u32> {
-        if self.places == 0 {
-            return None;
-        }
-        for step in 1..=self.places {
-            let place = self.hand.wrapping_add(step) % self.places;
-            if let ItemState::Out = self.tables.item(place).state
-                && !self.is_stood_on(place)
-            {
-                return Some(place);
+        (self.hand.saturating_add(1)..self.places)
+            .chain(0..=self.hand)
+            .find(|place| self.is_free(*place))
+    }
+
+    fn set_aside(&mut self, key: Berth, value: u32) -> Result<u32, IndexFault> {
+        let place = self.free_place().ok_or(IndexFault::NoPlace)?;
+        self.tables.change_item(place, |item| {
+            *item = Item {
+                state: ItemState::SetAside,
+                key,
+                value,
+                next: place,
+                occupied: item.occupied,
             }
-        }
-        None
+        });
+        self.hand = place;
+        Ok(place)
     }
 
     pub fn begin(
         &mut self,
-        lengths: Lengths,
         session: u8,
+        seat: Seat,
         task: Task<Berth, u32>,
-    ) -> Result<Answer, u8> {
-        let mut seat = self.seat(lengths, session)?;
+    ) -> Result<(), IndexFault> {
         let Phase::Idle = seat.phase else {
-            return Err(11);
+            return Err(IndexFault::NotIdle);
         };
         let Task {
             operation,
             key,
             value,
         } = task;
-        if let Operation::Insert | Operation::Replace = operation {
-            let Some(place) = self.free_place() else {
-                return Err(12);
-            };
-            let mut item = self.tables.item(place);
-            item.state = ItemState::SetAside;
-            item.key = key;
-            item.value = value;
-            item.next = place;
-            self.tables.put_item(place, item);
-            self.hand = place;
-            seat.aside = Some(place);
-        }
+        let aside = match operation {
+            Operation::Insert | Operation::Replace => Some(self.set_aside(key, value)?),
+            Operation::Find | Operation::Write | Operation::Remove | Operation::Point => None,
+        };
         self.tables.put_request(session, Request { key, value });
-        seat.phase = Phase::UnderWay;
-        seat.operation = operation;
-        self.put_seat(session, seat);
-        Ok(Answer::Begun)
+        let work = Work {
+            operation,
+            cursor: None,
+            aside,
+            claim: None,
+        };
+        self.put_phase(session, Phase::UnderWay(work));
+        Ok(())
     }
 
-    // The session is idle again, and keeps its find count.
-    fn free_seat(&mut self, session: u8, seat: Seat) {
-        self.put_seat(
-            session,
-            Seat {
-                phase: Phase::Idle,
-                operation: seat.operation,
-                cursor: None,
-                aside: None,
-                claim: None,
-                present: false,
-                finds: seat.finds,
-            },
-        );
-    }
-
-    pub fn collect(&mut self, lengths: Lengths, session: u8) -> Result<Answer, u8> {
-        let seat = self.seat(lengths, session)?;
+    pub fn collect(&mut self, session: u8, seat: Seat) -> Result<Option<u32>, IndexFault> {
         match seat.phase {
-            Phase::Idle => Err(13),
-            Phase::UnderWay => Err(15),
-            Phase::Ended => {
-                self.free_seat(session, seat);
-                if seat.present {
-                    Ok(Answer::Present(self.tables.request(session).value))
-                } else {
-                    Ok(Answer::Absent)
-                }
+            Phase::Idle => Err(IndexFault::Idle),
+            Phase::UnderWay(_) => Err(IndexFault::UnderWay),
+            Phase::Ended { present } => {
+                self.put_phase(session, Phase::Idle);
+                Ok(present.then_some(self.tables.request(session).value))
             }
         }
     }
 
-    pub fn abandon(&mut self, lengths: Lengths, session: u8) -> Result<Answer, u8> {
-        let seat = self.seat(lengths, session)?;
-        if let Phase::Idle = seat.phase {
-            return Err(13);
+    pub fn abandon(&mut self, session: u8, seat: Seat) -> Result<(), IndexFault> {
+        match seat.phase {
+            Phase::Idle => return Err(IndexFault::Idle),
+            Phase::UnderWay(work) => self.give_up(work),
+            Phase::Ended { .. } => {}
         }
-        if let Some(p) = seat.claim {
-            self.tables.put_mark(p, false);
+        self.put_phase(session, Phase::Idle);
+        Ok(())
+    }
+
+    fn give_up(&mut self, work: Work) {
+        if let Some(p) = work.claim {
+            self.tables.change_item(p, |item| item.occupied = false);
         }
-        if let Some(a) = seat.aside {
-            self.tables.put_state(a, ItemState::Out);
+        if let Some(a) = work.aside {
+            self.tables
+                .change_item(a, |item| item.state = ItemState::Out);
         }
-        self.free_seat(session, seat);
-        Ok(Answer::Abandoned)
     }
 }

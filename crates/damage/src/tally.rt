@@ -1,30 +1,111 @@
-use crate::answer::{Answer, WORDS};
-use crate::reference::Seat;
+use crate::answer::Answer;
+use crate::count::{Count, add_one, print_counts};
+use crate::reference::{Phase, Seat, Work};
+use calls::fault::IndexFault;
+use calls::operation::Operation;
+use calls::reply::{Progress, Reply};
 use std::io;
 
-const OPERATIONS: [&'static str; 6] = ["find", "insert", "write", "replace", "remove", "point"];
+// An answer, without the value that it may hold.
+#[derive(Clone, Copy, Debug, PartialEq, Eq)]
+enum Word {
+    Refused,
+    Made,
+    Begun,
+    Turned(Progress),
+    CollectedPresent,
+    CollectedAbsent,
+    Abandoned,
+}
 
-const CORNERS: [&'static str; 6] = [
-    "fifth finds that hit",
-    "swings done",
-    "claims given up",
-    "turns on the session's own set-aside place",
-    "turns with the session's own set-aside place claimed",
-    "turns with the place stood on claimed",
+const WORDS: [(Word, &'static str); 11] = [
+    (Word::Refused, "refused"),
+    (Word::Made, "made"),
+    (Word::Begun, "begun"),
+    (Word::Turned(Progress::Moved), "moved"),
+    (Word::Turned(Progress::Again), "again"),
+    (Word::Turned(Progress::Held), "held"),
+    (Word::Turned(Progress::Claimed), "claimed"),
+    (Word::Turned(Progress::Ended), "ended"),
+    (Word::CollectedPresent, "collected present"),
+    (Word::CollectedAbsent, "collected absent"),
+    (Word::Abandoned, "abandoned"),
 ];
 
-const REFUSALS: [&'static str; 10] = [
-    "refused 7, more than 8 head bits",
-    "refused 8, lengths that no index has",
-    "refused 9, lengths not as made, or a blank record",
-    "refused 10, no such session",
-    "refused 11, the session is not idle",
-    "refused 12, no place is free",
-    "refused 13, the session is idle",
-    "refused 14, the session has ended",
-    "refused 15, the session is under way",
-    "refused 16, a place outside the table",
+const REFUSALS: [(IndexFault, &'static str); 10] = [
+    (IndexFault::HeadBits, "more than 8 head bits"),
+    (IndexFault::TableLengths, "lengths that no index has"),
+    (
+        IndexFault::NotAsMade,
+        "lengths not as made, or a blank record",
+    ),
+    (IndexFault::NoSession, "no such session"),
+    (IndexFault::NotIdle, "the session is not idle"),
+    (IndexFault::NoPlace, "no place is free"),
+    (IndexFault::Idle, "the session is idle"),
+    (IndexFault::Ended, "the session has ended"),
+    (IndexFault::UnderWay, "the session is under way"),
+    (IndexFault::OutsideTable, "a place outside the table"),
 ];
+
+// What may come together in a turn, and seldom does.
+#[derive(Clone, Copy, Debug, PartialEq, Eq)]
+enum Corner {
+    FifthHit,
+    Swing,
+    GivenUp,
+    OnAside,
+    AsideClaimed,
+    OnClaimed,
+}
+
+const CORNERS: [(Corner, &'static str); 6] = [
+    (Corner::FifthHit, "fifth finds that hit"),
+    (Corner::Swing, "swings done"),
+    (Corner::GivenUp, "claims given up"),
+    (
+        Corner::OnAside,
+        "turns on the session's own set-aside place",
+    ),
+    (
+        Corner::AsideClaimed,
+        "turns with the session's own set-aside place claimed",
+    ),
+    (Corner::OnClaimed, "turns with the place stood on claimed"),
+];
+
+// How often an operation began, and how often it ended present and absent.
+#[derive(Clone, Copy)]
+struct Course {
+    operation: Operation,
+    name: &'static str,
+    begun: u64,
+    present: u64,
+    absent: u64,
+}
+
+const OPERATIONS: [(Operation, &'static str); 6] = [
+    (Operation::Find, "find"),
+    (Operation::Insert, "insert"),
+    (Operation::Write, "write"),
+    (Operation::Replace, "replace"),
+    (Operation::Remove, "remove"),
+    (Operation::Point, "point"),
+];
+
+impl From<Result<Answer, IndexFault>> for Word {
+    fn from(answer: Result<Answer, IndexFault>) -> Word {
+        match answer {
+            Err(_) => Word::Refused,
+            Ok(Answer::Made) => Word::Made,
+            Ok(Answer::Replied(Reply::Begun)) => Word::Begun,
+            Ok(Answer::Replied(Reply::Turned(progress))) => Word::Turned(progress),
+            Ok(Answer::Replied(Reply::Collected(Some(_)))) => Word::CollectedPresent,
+            Ok(Answer::Replied(Reply::Collected(None))) => Word::CollectedAbsent,
+            Ok(Answer::Replied(Reply::Abandoned)) => Word::Abandoned,
+        }
+    }
+}
 
 // What came up, and how often.
 #[derive(Clone, Copy)]
@@ -33,25 +114,10 @@ pub struct Tally {
     pub damages: u64,
     undamaged: u64,
     differences: u64,
-    pub refusals: [u64; 17],
-    words: [u64; 11],
-    begun: [u64; 6],
-    present: [u64; 6],
-    absent: [u64; 6],
-    corners: [u64; 6],
-}
-
-fn add_one(counts: &mut [u64], i: usize) {
-    if i < counts.len() {
-        counts[i] = counts[i].saturating_add(1);
-    }
-}
-
-fn print_counts(rt: &impl Print, names: &[&'static str], counts: &[u64]) -> io::Result<()> {
-    for (name, count) in names.iter().zip(counts.iter()) {
-        println!(rt; "{name}: {count}")?;
-    }
-    Ok(())
+    courses: [Course; 6],
+    words: [Count<Word>; 11],
+    refusals: [Count<IndexFault>; 10],
+    corners: [Count<Corner>; 6],
 }
 
 impl Tally {
@@ -61,17 +127,29 @@ impl Tally {
             damages: 0,
             undamaged: 0,
             differences: 0,
-            refusals: [0; 17],
-            words: [0; 11],
-            begun: [0; 6],
-            present: [0; 6],
-            absent: [0; 6],
-            corners: [0; 6],
+            courses: OPERATIONS.map(|(operation, name)| Course {
+                operation,
+                name,
+                begun: 0,
+                present: 0,
+                absent: 0,
+            }),
+            words: WORDS.map(Count::none_of),
+            refusals: REFUSALS.map(Count::none_of),
+            corners: CORNERS.map(Count::none_of),
         }
     }
 
     pub fn differ(&mut self) {
         self.differences = self.differences.saturating_add(1);
+    }
+
+    // How many calls were refused for this.
+    pub fn refused(&self, fault: IndexFault) -> u64 {
+        self.refusals
+            .iter()
+            .find(|count| count.kind == fault)
+            .map_or(0, |count| count.times)
     }
 
     // A round without damage, in which refusal 16 would be a difference too.
@@ -83,72 +161,102 @@ impl Tally {
     }
 
     // An answer, with what the session was before the call and is after it.
-    pub fn count(&mut self, answer: Answer, before: Seat, after: Seat) {
+    pub fn count(&mut self, answer: Result<Answer, IndexFault>, before: Seat, after: Seat) {
         self.calls = self.calls.saturating_add(1);
-        add_one(&mut self.words, answer.word());
-        let operation = after.operation as usize;
+        add_one(&mut self.words, answer.into());
         match answer {
-            Answer::Refused(number) => add_one(&mut self.refusals, number as usize),
-            Answer::Begun => add_one(&mut self.begun, operation),
-            Answer::Ended => {
-                if after.present {
-                    add_one(&mut self.present, operation);
-                } else {
-                    add_one(&mut self.absent, operation);
-                }
+            Err(fault) => add_one(&mut self.refusals, fault),
+            Ok(Answer::Replied(Reply::Begun)) => self.count_begin(after),
+            Ok(Answer::Replied(Reply::Turned(progress))) => {
+                self.count_turn(progress, before, after)
             }
-            _ => {}
+            Ok(_) => {}
         }
-        self.count_corners(answer, before, after);
     }
 
-    fn count_corners(&mut self, answer: Answer, before: Seat, after: Seat) {
-        let fifth = before.finds == 4 && after.finds == 0 && after.present;
-        let claimed = before.claim != None;
-        match answer {
-            Answer::Ended => {
-                if fifth {
-                    add_one(&mut self.corners, 0);
-                }
-                if claimed {
-                    add_one(&mut self.corners, 1);
-                }
-            }
-            Answer::Again => {
-                if claimed {
-                    add_one(&mut self.corners, 2);
-                }
-            }
-            Answer::Moved | Answer::Held | Answer::Claimed => {}
-            _ => return,
+    fn course(&mut self, operation: Operation) -> Option<&mut Course> {
+        self.courses
+            .iter_mut()
+            .find(|course| course.operation == operation)
+    }
+
+    fn count_begin(&mut self, after: Seat) {
+        if let Some(work) = after.work()
+            && let Some(course) = self.course(work.operation)
+        {
+            course.begun = course.begun.saturating_add(1);
         }
-        self.count_meeting(before);
+    }
+
+    fn count_turn(&mut self, progress: Progress, before: Seat, after: Seat) {
+        let Some(work) = before.work() else {
+            return;
+        };
+        if let Phase::Ended { present } = after.phase {
+            self.count_end(work, present);
+            if before.finds == 4 && after.finds == 0 && present {
+                add_one(&mut self.corners, Corner::FifthHit);
+            }
+        }
+        if work.claim.is_some() {
+            match progress {
+                Progress::Ended => add_one(&mut self.corners, Corner::Swing),
+                Progress::Again => add_one(&mut self.corners, Corner::GivenUp),
+                Progress::Moved | Progress::Held | Progress::Claimed => {}
+            }
+        }
+        self.count_meeting(work);
+    }
+
+    fn count_end(&mut self, work: Work, present: bool) {
+        if let Some(course) = self.course(work.operation) {
+            if present {
+                course.present = course.present.saturating_add(1);
+            } else {
+                course.absent = course.absent.saturating_add(1);
+            }
+        }
     }
 
     // Places of a session that are one: by damage, or in a ring of one item.
-    fn count_meeting(&mut self, seat: Seat) {
-        if let Some(a) = seat.aside {
-            if seat.cursor == Some(a) {
-                add_one(&mut self.corners, 3);
-            }
-            if seat.claim == Some(a) {
-                add_one(&mut self.corners, 4);
-            }
+    fn count_meeting(&mut self, work: Work) {
+        let Work {
+            cursor,
+            aside,
+            claim,
+            ..
+        } = work;
+        if aside.is_some() && cursor == aside {
+            add_one(&mut self.corners, Corner::OnAside);
         }
-        if let Some(p) = seat.claim
-            && seat.cursor == Some(p)
-        {
-            add_one(&mut self.corners, 5);
+        if aside.is_some() && claim == aside {
+            add_one(&mut self.corners, Corner::AsideClaimed);
+        }
+        if claim.is_some() && cursor == claim {
+            add_one(&mut self.corners, Corner::OnClaimed);
         }
     }
 
-    fn print_operations(&self, rt: &impl Print) -> io::Result<()> {
-        for i in 0..6 {
-            let name = OPERATIONS[i];
-            let begun = self.begun[i];
-            let present = self.present[i];
-            let absent = self.absent[i];
+    fn print_courses(&self, rt: &impl Print) -> io::Result<()> {
+        for course in &self.courses {
+            let Course {
+                name,
+                begun,
+                present,
+                absent,
+                ..
+            } = *course;
             println!(rt; "{name}: {begun} begun, {present} ended present, {absent} ended absent")?;
+        }
+        Ok(())
+    }
+
+    fn print_refusals(&self, rt: &impl Print) -> io::Result<()> {
+        for count in &self.refusals {
+            let number = count.kind.number();
+            let name = count.name;
+            let times = count.times;
+            println!(rt; "refused {number}, {name}: {times}")?;
         }
         Ok(())
     }
@@ -160,10 +268,10 @@ impl Tally {
         let differences = self.differences;
         println!(rt; "{undamaged} rounds without damage, {damages} damages in the others")?;
         println!(rt; "{calls} calls")?;
-        self.print_operations(rt)?;
-        print_counts(rt, &WORDS, &self.words)?;
-        print_counts(rt, &REFUSALS, &self.refusals[7..17])?;
-        print_counts(rt, &CORNERS, &self.corners)?;
+        self.print_courses(rt)?;
+        print_counts(rt, &self.words)?;
+        self.print_refusals(rt)?;
+        print_counts(rt, &self.corners)?;
         println!(rt; "{differences} differences")
     }
 }

@@ -1,4 +1,3 @@
-use crate::answer::Answer;
 use crate::ask::Ask;
 use crate::lent::Lent;
 use crate::reference::Reference;
@@ -34,9 +33,7 @@ impl Trial {
         if answer != expected || !self.lent.same(&self.reference.tables) {
             tally.differ();
         }
-        if let Answer::Refused(_) = answer
-            && !self.lent.same(&tables)
-        {
+        if answer.is_err() && !self.lent.same(&tables) {
             tally.differ();
         }
         tally.count(answer, before, after);

@@ -1,222 +1,231 @@
-use crate::answer::Answer;
-use crate::lent::{Lengths, NONE};
-use crate::rank::{bucket, falls_between, rank};
-use crate::reference::{Phase, Reference, Seat};
+use crate::lent::NONE;
+use crate::rank::{Rank, bucket};
+use crate::reference::{Phase, Reference, Seat, Work};
+use calls::fault::IndexFault;
 use calls::operation::Operation;
+use calls::reply::Progress;
 use tables::item::ItemState;
 use tables::request::Request;
 
+// A session in a turn: its number, its find count, what it is at, and the bucket of its key.
+#[derive(Clone, Copy)]
+struct Turn {
+    session: u8,
+    finds: u8,
+    work: Work,
+    home: usize,
+}
+
 // One turn: section 10 of docs/RULES.md, by the first rule that applies.
 impl Reference {
-    pub fn turn(&mut self, lengths: Lengths, session: u8) -> Result<Answer, u8> {
-        let seat = self.seat(lengths, session)?;
+    pub fn turn(&mut self, session: u8, seat: Seat) -> Result<Progress, IndexFault> {
+        let home = bucket(self.bits, self.tables.request(session).key);
         match seat.phase {
-            Phase::Idle => Err(13),
-            Phase::Ended => Err(14),
-            Phase::UnderWay => self.go_on(session, seat),
+            Phase::Idle => Err(IndexFault::Idle),
+            Phase::Ended { .. } => Err(IndexFault::Ended),
+            Phase::UnderWay(work) => self.go_on(Turn {
+                session,
+                finds: seat.finds,
+                work,
+                home,
+            }),
         }
     }
 
-    fn go_on(&mut self, session: u8, mut seat: Seat) -> Result<Answer, u8> {
-        let q = self.tables.request(session).key;
-        let home = bucket(self.bits, q);
+    fn go_on(&mut self, turn: Turn) -> Result<Progress, IndexFault> {
+        let work = turn.work;
         // a session with a claim has a cursor, so 10.2 may be tried before 10.1
-        let Some(c) = seat.cursor else {
-            return self.enter(session, seat, home);
+        let Some(c) = work.cursor else {
+            return self.enter(turn);
         };
-        if let Some(p) = seat.claim {
-            return self.swing(session, seat, home, c, p);
+        if let Some(p) = work.claim {
+            return self.swing(turn, c, p);
         }
         let item = self.tables.item(c);
-        let ItemState::InRing = item.state else {
-            seat.cursor = None;
-            self.put_seat(session, seat);
-            return Ok(Answer::Again);
-        };
-        let sought = rank(self.bits, q);
-        let stood_on = rank(self.bits, item.key);
-        let seeks_c = match seat.operation {
-            Operation::Find | Operation::Write | Operation::Point => true,
-            Operation::Insert | Operation::Replace | Operation::Remove => false,
-        };
-        if seeks_c && stood_on == sought {
-            return Ok(self.hit_c(session, seat, home, c));
+        if item.state != ItemState::InRing {
+            self.put_places(turn, None, None);
+            return Ok(Progress::Again);
+        }
+        let q = Rank::new(self.bits, self.tables.request(turn.session).key);
+        let stood_on = Rank::new(self.bits, item.key);
+        let seeks_c = matches!(
+            work.operation,
+            Operation::Find | Operation::Write | Operation::Point
+        );
+        if seeks_c && stood_on == q {
+            return Ok(self.hit_c(turn, c));
         }
         let m = self.read_next(c)?;
-        let ahead = rank(self.bits, self.tables.item(m).key);
-        if !seeks_c && ahead == sought {
-            return self.hit_m(session, seat, m);
+        let ahead = Rank::new(self.bits, self.tables.item(m).key);
+        if !seeks_c && ahead == q {
+            return self.hit_m(turn, c, m);
         }
-        if falls_between(stood_on, sought, ahead) {
-            return Ok(self.miss(session, seat, c, m));
+        if q.falls_between(stood_on, ahead) {
+            return Ok(self.miss(turn, c, m));
         }
-        seat.cursor = Some(m);
-        self.put_seat(session, seat);
-        Ok(Answer::Moved)
+        self.put_places(turn, Some(m), None);
+        Ok(Progress::Moved)
     }
 
-    fn read_next(&self, place: u32) -> Result<u32, u8> {
+    // The session is at the same operation, with these as cursor and claim.
+    fn put_places(&mut self, turn: Turn, cursor: Option<u32>, claim: Option<u32>) {
+        let work = Work {
+            cursor,
+            claim,
+            ..turn.work
+        };
+        self.put_phase(turn.session, Phase::UnderWay(work));
+    }
+
+    fn read_next(&self, place: u32) -> Result<u32, IndexFault> {
         let next = self.tables.item(place).next;
         if next < self.places {
             Ok(next)
         } else {
-            Err(16)
+            Err(IndexFault::OutsideTable)
         }
     }
 
     // The head of a bucket, which may be none.
-    fn read_head(&self, home: usize) -> Result<u32, u8> {
-        let head = self.tables.head(home);
-        if head == NONE || head < self.places {
-            Ok(head)
-        } else {
-            Err(16)
+    fn read_head(&self, home: usize) -> Result<Option<u32>, IndexFault> {
+        match self.tables.head(home) {
+            NONE => Ok(None),
+            head if head < self.places => Ok(Some(head)),
+            _ => Err(IndexFault::OutsideTable),
         }
     }
 
     // 10.2: the cursor goes to the head, or the ring is empty.
-    fn enter(&mut self, session: u8, mut seat: Seat, home: usize) -> Result<Answer, u8> {
-        let head = self.read_head(home)?;
-        if head != NONE {
-            seat.cursor = Some(head);
-            self.put_seat(session, seat);
-            return Ok(Answer::Moved);
+    fn enter(&mut self, turn: Turn) -> Result<Progress, IndexFault> {
+        if let Some(head) = self.read_head(turn.home)? {
+            self.put_places(turn, Some(head), None);
+            return Ok(Progress::Moved);
         }
-        if let Operation::Insert = seat.operation
-            && let Some(a) = seat.aside
+        if let Operation::Insert = turn.work.operation
+            && let Some(a) = turn.work.aside
         {
-            self.tables.put_next(a, a);
-            self.tables.put_head(home, a);
-            return Ok(self.end(session, seat, None, true));
+            self.tables.change_item(a, |item| item.next = a);
+            self.tables.put_head(turn.home, Some(a));
+            return Ok(self.end(turn, None, true));
         }
-        Ok(self.end(session, seat, None, false))
+        Ok(self.end(turn, None, false))
     }
 
     // 10.1: the claimed item goes out of the ring, or the claim is given up.
-    fn swing(
-        &mut self,
-        session: u8,
-        mut seat: Seat,
-        home: usize,
-        c: u32,
-        p: u32,
-    ) -> Result<Answer, u8> {
+    fn swing(&mut self, turn: Turn, c: u32, p: u32) -> Result<Progress, IndexFault> {
         if !self.is_claim_good(c, p)? {
-            self.tables.put_mark(p, false);
-            seat.claim = None;
-            seat.cursor = None;
-            self.put_seat(session, seat);
-            return Ok(Answer::Again);
+            self.tables.change_item(p, |item| item.occupied = false);
+            self.put_places(turn, None, None);
+            return Ok(Progress::Again);
         }
-        let successor = match seat.aside {
+        let successor = match turn.work.aside {
             Some(a) => a,
             None => self.read_next(p)?,
         };
-        let head = self.read_head(home)?;
+        let head = self.read_head(turn.home)?;
         let value = self.tables.item(p).value;
-        let removed_alone = seat.aside == None && successor == p;
-        self.tables.put_next(c, successor);
-        if head == p {
-            self.tables
-                .put_head(home, if removed_alone { NONE } else { successor });
+        let removed_alone = turn.work.aside == None && successor == p;
+        self.tables.change_item(c, |item| item.next = successor);
+        if head == Some(p) {
+            let after = if removed_alone { None } else { Some(successor) };
+            self.tables.put_head(turn.home, after);
         }
-        self.tables.put_state(p, ItemState::Out);
-        self.tables.put_mark(p, false);
-        Ok(self.end(session, seat, Some(value), true))
+        self.tables.change_item(p, |item| {
+            item.state = ItemState::Out;
+            item.occupied = false;
+        });
+        Ok(self.end(turn, Some(value), true))
     }
 
-    fn is_claim_good(&self, c: u32, p: u32) -> Result<bool, u8> {
+    fn is_claim_good(&self, c: u32, p: u32) -> Result<bool, IndexFault> {
         let item = self.tables.item(c);
-        let ItemState::InRing = item.state else {
+        if item.state != ItemState::InRing {
             return Ok(false);
-        };
+        }
         let next = self.read_next(c)?;
         Ok(next == p && (!item.occupied || c == p))
     }
 
     // 10.4, with the fifth find of 10.9.
-    fn hit_c(&mut self, session: u8, seat: Seat, home: usize, c: u32) -> Answer {
-        let mut item = self.tables.item(c);
-        let found = item.value;
-        match seat.operation {
+    fn hit_c(&mut self, turn: Turn, c: u32) -> Progress {
+        let found = self.tables.item(c).value;
+        match turn.work.operation {
             Operation::Write => {
-                item.value = self.tables.request(session).value;
-                self.tables.put_item(c, item);
+                let value = self.tables.request(turn.session).value;
+                self.tables.change_item(c, |item| item.value = value);
             }
-            Operation::Point => self.tables.put_head(home, c),
+            Operation::Point => self.tables.put_head(turn.home, Some(c)),
             _ => {
-                if seat.finds == 4 {
-                    self.tables.put_head(home, c);
+                if turn.finds == 4 {
+                    self.tables.put_head(turn.home, Some(c));
                 }
             }
         }
-        self.end(session, seat, Some(found), false)
+        self.end(turn, Some(found), false)
     }
 
     // 10.5: an insert finds its key there; a replace or remove claims m, unless another has.
-    fn hit_m(&mut self, session: u8, mut seat: Seat, m: u32) -> Result<Answer, u8> {
+    fn hit_m(&mut self, turn: Turn, c: u32, m: u32) -> Result<Progress, IndexFault> {
         let item = self.tables.item(m);
-        if let Operation::Insert = seat.operation {
-            return Ok(self.end(session, seat, Some(item.value), false));
+        if let Operation::Insert = turn.work.operation {
+            return Ok(self.end(turn, Some(item.value), false));
         }
         if item.occupied {
-            return Ok(Answer::Held);
+            return Ok(Progress::Held);
         }
-        if let Some(a) = seat.aside {
-            let behind = self.read_next(m)?;
-            self.tables.put_mark(m, true);
-            self.tables
-                .put_next(a, if behind == m { a } else { behind });
-        } else {
-            self.tables.put_mark(m, true);
+        let replacing = match turn.work.aside {
+            Some(a) => Some((a, self.read_next(m)?)),
+            None => None,
+        };
+        self.tables.change_item(m, |item| item.occupied = true);
+        if let Some((a, behind)) = replacing {
+            let next = if behind == m { a } else { behind };
+            self.tables.change_item(a, |item| item.next = next);
         }
-        seat.claim = Some(m);
-        self.put_seat(session, seat);
-        Ok(Answer::Claimed)
+        self.put_places(turn, Some(c), Some(m));
+        Ok(Progress::Claimed)
     }
 
     // 10.6: only an insert has to do anything about it.
-    fn miss(&mut self, session: u8, seat: Seat, c: u32, m: u32) -> Answer {
-        if let Operation::Insert = seat.operation
-            && let Some(a) = seat.aside
+    fn miss(&mut self, turn: Turn, c: u32, m: u32) -> Progress {
+        if let Operation::Insert = turn.work.operation
+            && let Some(a) = turn.work.aside
         {
             if self.tables.item(c).occupied {
-                return Answer::Held;
+                return Progress::Held;
             }
-            self.tables.put_next(a, m);
-            self.tables.put_next(c, a);
-            return self.end(session, seat, None, true);
+            self.tables.change_item(a, |item| item.next = m);
+            self.tables.change_item(c, |item| item.next = a);
+            return self.end(turn, None, true);
         }
-        self.end(session, seat, None, false)
+        self.end(turn, None, false)
     }
 
     // 10.8: what every end does, after the writes of its rule.
-    fn end(&mut self, session: u8, mut seat: Seat, found: Option<u32>, linked: bool) -> Answer {
-        if let Some(a) = seat.aside {
+    fn end(&mut self, turn: Turn, found: Option<u32>, linked: bool) -> Progress {
+        if let Some(a) = turn.work.aside {
             let state = if linked {
                 ItemState::InRing
             } else {
                 ItemState::Out
             };
-            self.tables.put_state(a, state);
+            self.tables.change_item(a, |item| item.state = state);
         }
         if let Some(value) = found {
-            let key = self.tables.request(session).key;
-            self.tables.put_request(session, Request { key, value });
+            let key = self.tables.request(turn.session).key;
+            self.tables
+                .put_request(turn.session, Request { key, value });
         }
-        if let Operation::Find = seat.operation {
-            seat.finds = if seat.finds == 4 {
-                0
-            } else {
-                seat.finds.wrapping_add(1)
-            };
-        }
-        seat.phase = Phase::Ended;
-        seat.present = found != None;
-        seat.cursor = None;
-        seat.aside = None;
-        seat.claim = None;
-        self.put_seat(session, seat);
-        Answer::Ended
+        let phase = Phase::Ended {
+            present: found.is_some(),
+        };
+        // 10.9: the fifth find sets the count to 0
+        let finds = match turn.work.operation {
+            Operation::Find if turn.finds == 4 => 0,
+            Operation::Find => turn.finds.wrapping_add(1),
+            _ => turn.finds,
+        };
+        self.put_seat(turn.session, Seat { phase, finds });
+        Progress::Ended
     }
 }

@@ -1,11 +1,12 @@
 ghost use Rattle.std.specs.Prelude.{◌<◌};
 
-use crate::dice::Dice;
+use dice::Dice;
+use std::fmt;
 
 // How often each key of a ring of 256 is asked for. Hot keys lie far from each other and, in the mean,
 // half the ring from the key that was inserted first, so that a head that stays there has neither an
 // advantage nor a disadvantage.
-#[derive(Clone, Copy)]
+#[derive(Clone, Copy, Debug, PartialEq, Eq)]
 pub enum Demand {
     // every key as often as any other
     Even,
@@ -15,36 +16,27 @@ pub enum Demand {
     OneHot,
 }
 
-impl Demand {
-    pub fn name(self) -> &'static str {
+impl fmt::Display for Demand {
+    fn fmt<W: fmt::Write>(&self, f: &mut fmt::Formatter<W>) -> fmt::Result {
         match self {
-            Demand::Even => "even demand",
-            Demand::FewHot => "a few hot keys",
-            Demand::OneHot => "one hot key",
+            Demand::Even => write!(f, "even demand"),
+            Demand::FewHot => write!(f, "a few hot keys"),
+            Demand::OneHot => write!(f, "one hot key"),
         }
     }
+}
 
+impl Demand {
     // The harbour of the next key that is asked for.
     pub fn draw(self, dice: &mut Dice) -> u16
         ensures { result < 256 }
     {
         let quarter = dice.below(4);
         match self {
-            Demand::FewHot => {
-                if quarter < 2 {
-                    return 63 + 128 * dice.below(2);
-                }
-                if quarter == 2 {
-                    return 15 + 32 * dice.below(8);
-                }
-            }
-            Demand::OneHot => {
-                if quarter < 3 {
-                    return 127;
-                }
-            }
-            Demand::Even => {}
+            Demand::FewHot if quarter < 2 => 63 + 128 * dice.below(2) as u16,
+            Demand::FewHot if quarter == 2 => 15 + 32 * dice.below(8) as u16,
+            Demand::OneHot if quarter < 3 => 127,
+            Demand::Even | Demand::FewHot | Demand::OneHot => dice.below(256) as u16,
         }
-        dice.below(256)
     }
 }

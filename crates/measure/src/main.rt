@@ -8,10 +8,9 @@
 ghost use Rattle.std.specs.Prelude.{◌≡◌, ◌*◌, ◌/◌, ◌<◌};
 
 mod demand;
-mod dice;
 mod ring;
 
-use anyhow::anyhow;
+use anyhow::{anyhow, bail};
 use calls::fault::IndexFault;
 use calls::operation::Operation;
 use demand::Demand;
@@ -32,10 +31,7 @@ const USAGE: &'static str =
 
 // A refusal that no measure expects ends the program.
 fn accepted<T>(res: Result<T, IndexFault>) -> anyhow::Result<T> {
-    match res {
-        Ok(answer) => Ok(answer),
-        Err(_) => Err(anyhow!("the index refused a call")),
-    }
+    res.map_err(|_| anyhow!("the index refused a call"))
 }
 
 fn filled(heap: Global, size: u16) -> anyhow::Result<Ring> {
@@ -96,22 +92,19 @@ fn print_turns(
     let mean = hundredths(turns, OPERATIONS);
     let whole = mean / 100;
     let part = mean % 100;
-    let name = demand.name();
-    println!(rt; "{name}, {label}: {whole}.{part:02} turns")?;
+    println!(rt; "{demand}, {label}: {whole}.{part:02} turns")?;
     Ok(())
 }
 
 fn number(word: Option<String>) -> anyhow::Result<u32> {
-    match word {
-        None => Err(anyhow!(USAGE)),
-        Some(digits) => Ok(digits.parse::<u32>()?),
-    }
+    let digits = word.ok_or_else(|| anyhow!(USAGE))?;
+    Ok(digits.parse::<u32>()?)
 }
 
 fn ring_size(word: Option<String>) -> anyhow::Result<u16> {
     match number(word)? {
         size @ 1..=4096 => Ok(size as u16),
-        _ => Err(anyhow!(USAGE)),
+        _ => bail!(USAGE),
     }
 }
 
@@ -140,7 +133,7 @@ fn run(rt: &HostRuntime) -> anyhow::Result<()> {
             let refused = begin_refused(&mut ring, count);
             println!(rt; "{refused} refused")?;
         }
-        _ => return Err(anyhow!(USAGE)),
+        _ => bail!(USAGE),
     }
     Ok(())
 }

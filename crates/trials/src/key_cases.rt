@@ -41,10 +41,7 @@ fn name_hashes(rt: HostRuntime) -> Result<(), Fail> {
         NameHash(b"Isle of Skye", 57680),
     ];
     for NameHash(bytes, hash) in cases {
-        match Name::new(bytes) {
-            Ok(name) => assert_eq!(rt; name.hash(), hash),
-            Err(_) => return Err(Fail::new("no name")),
-        }
+        assert_eq!(rt; Name::new(bytes)?.hash(), hash);
     }
     Ok(())
 }

@@ -55,7 +55,7 @@ fn begins_on_the_berth_board(rt: HostRuntime) -> Result<(), Fail> {
         let Action::Begin(task) = call.action else {
             return Err(Fail::new("no begin"));
         };
-        assert_eq!(rt; task.operation as u8, case.operation as u8);
+        assert_eq!(rt; task.operation, case.operation);
         assert_eq!(rt; task.key.harbour, case.harbour);
         assert_eq!(rt; task.key.berth, case.berth);
         assert_eq!(rt; task.value.ship, case.ship);
@@ -107,7 +107,7 @@ fn begins_on_the_ship_board(rt: HostRuntime) -> Result<(), Fail> {
         let Action::Begin(task) = call.action else {
             return Err(Fail::new("no begin"));
         };
-        assert_eq!(rt; task.operation as u8, case.operation as u8);
+        assert_eq!(rt; task.operation, case.operation);
         assert!(rt; task.key.used() == case.name);
         assert_eq!(rt; task.value, case.berth);
     }
@@ -138,14 +138,13 @@ fn other_calls(rt: HostRuntime) -> Result<(), Fail> {
         Short(b"S,abandon,3", false, 3, Verb::Abandon),
     ];
     for Short(line, on_berths, session, verb) in cases {
-        let (board, found, action) = match read_line(line) {
-            Ok(Message::Berths(call)) => (true, call.session, verb_of(call.action)),
-            Ok(Message::Ships(call)) => (false, call.session, verb_of(call.action)),
-            Err(_) => return Err(Fail::new("refused")),
+        let (board, found, action) = match read_line(line)? {
+            Message::Berths(call) => (true, call.session, verb_of(call.action)),
+            Message::Ships(call) => (false, call.session, verb_of(call.action)),
         };
         assert_eq!(rt; board, on_berths);
         assert_eq!(rt; found, session);
-        assert_eq!(rt; action as u8, verb as u8);
+        assert_eq!(rt; action, verb);
     }
     Ok(())
 }
