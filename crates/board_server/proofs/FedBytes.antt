@@ -1,8 +1,9 @@
 -- Bytes taken in, and lines answered.
 use Rattle.std.proofs.Common.{◌≡◌, ℕ, suc, ◌+◌, ◌-◌, ◌≤◌, ◌<◌, min, Bool, true, false, cond, None, Some, Option, List, [], ◌∷◌, ◌++◌, length, take, drop, get_or, sym, refl, ap, ◌∙◌, arith, ◌==◌, take-add}
-use Rattle.memchr.specs.Find.{IsFirstByte, is_byte}
-use Rattle.std.proofs.lemmas.List.{take_all, take_more, get_or-take, length-append, length-take, length-drop, drop-drop}
+use Rattle.memchr.specs.Find.{IsFirstByte, Passes, is_byte}
+use Rattle.std.proofs.lemmas.List.{take_all, take_more, get_or-take, get_or-drop, length-append, length-take, length-drop, drop-drop}
 use Rattle.std.proofs.lemmas.List.Sums.{fold-append, fold_push}
+use Rattle.std.proofs.lemmas.Bool.{eqb-true}
 use Rattle.std.proofs.lemmas.Bool.Decides.{nat_tests}
 use Rattle.std.proofs.lemmas.Grind.{common_steps}
 use Rattle.text.specs.Kept.{added}
@@ -66,6 +67,26 @@ pub cut_whole : (n k : ℕ) (xs : List ℕ) → k ≡ min (length xs) n → take
 unfolding added
 cut_whole n k xs e = grind (arith, common_steps)
 
+-- the bytes from a place up to where the line ends
+module _ (bytes : List ℕ) (from to : ℕ) (le : from ≤ to) where
+  pub inside_part : ((k : ℕ) → from ≤ k → k < to → ¬ Passes (is_byte 10) bytes k) → Inside (take (to - from) (drop from bytes))
+  inside_part before k low high at =
+      let near : k < to - from = omega (arith, length-take (to - from) (drop from bytes)) in
+      before (from + k) (omega arith) (omega arith) (ap (is_byte 10) (sym (get_or-take (to - from) (drop from bytes) k 0 near ∙ get_or-drop from bytes k 0)) ∙ at)
+
+  pub with_end : to < length bytes → Passes (is_byte 10) bytes to → take (to - from) (drop from bytes) ++ 10 ∷ [] ≡ take ((to + 1) - from) (drop from bytes)
+  with_end within ends =
+      let place : from + (to - from) ≡ to = omega arith in
+      let count : (to - from) + 1 ≡ (to + 1) - from = omega arith in
+      let ten : get_or (drop from bytes) (to - from) 0 ≡ 10 = get_or-drop from bytes (to - from) 0 ∙ ap (λ k. get_or bytes k 0) place ∙ eqb-true _ _ ends in
+      sym (ap (λ n. take n (drop from bytes)) (sym count) ∙ take_more (drop from bytes) (to - from) 0 (omega (arith, length-drop from bytes)) ∙ ap (λ x. take (to - from) (drop from bytes) ++ x ∷ []) ten)
+
+  -- they come in behind those before them
+  pub fed_on : (s t u : Streamed) → t ≡ fed s (take from bytes) → u ≡ fed t (take (to - from) (drop from bytes)) → u ≡ fed s (take to bytes)
+  fed_on s t u e d =
+      let sum : from + (to - from) ≡ to = omega arith in
+      d ∙ ap (λ x. fed x (take (to - from) (drop from bytes))) e ∙ sym (fold-append fed_byte s (take from bytes) (take (to - from) (drop from bytes))) ∙ ap (fed s) (sym (take-add from (to - from) bytes) ∙ ap (λ n. take n bytes) sum)
+
 -- the answers so far do not matter to what comes after them
 fed_byte_cleared : (s : Streamed) (b : ℕ) → cleared (fed_byte (cleared s) b) ≡ cleared (fed_byte s b)
 fed_byte_cleared s b = elim (is_end b) as (λ v. cleared (cond v (line_ended (cleared s)) (with_line (added 81 s.line (b ∷ [])) (cleared s))) ≡ cleared (cond v (line_ended s) (with_line (added 81 s.line (b ∷ [])) s))) [ true ↦ refl | false ↦ refl ]
@@ -93,10 +114,6 @@ module _ (bytes rest after : List ℕ) (count : ℕ) (within : length rest ≤ l
   taken_on = sym (ap (λ n. take n bytes) far ∙ take-add (length bytes - length rest) count bytes ∙ ap (λ xs. take (length bytes - length rest) bytes ++ take count xs) (sym here))
 
   module _ (s t u : Streamed) where
-    pub fed_on : t ≡ fed s (take (length bytes - length rest) bytes) → u ≡ fed t (take count rest) → u ≡ fed s (take (length bytes - length after) bytes)
-    fed_on e d =
-        d ∙ ap (λ x. fed x (take count rest)) e ∙ sym (fold-append fed_byte s (take (length bytes - length rest) bytes) (take count rest)) ∙ ap (fed s) taken_on
-
     -- once the answers are written out
     pub fed_further : cleared t ≡ cleared (fed s (take (length bytes - length rest) bytes)) → u ≡ fed (cleared t) (take count rest) → cleared u ≡ cleared (fed s (take (length bytes - length after) bytes))
     fed_further e d =

@@ -4,7 +4,7 @@ ghost use Rattle.board_server.specs.Served.{Sounds};
 ghost use Rattle.board_server.specs.Streams.{new_stream, fed, has_room, finished, cleared};
 
 use crate::server::Server;
-use memchr::memchr;
+use memchr::memchr_iter;
 use std::alloc::{AllocError, Global};
 use std::marker::Model;
 use text::{Line, Page};
@@ -84,25 +84,6 @@ impl Stream {
         self.text.push(b'\n');
     }
 
-    // Takes in the bytes up to and with the next byte 10, or all of them, and says how many.
-    fn feed_line(&mut self, bytes: &[u8]) -> usize
-        requires some { 0 < length bytes.now }
-        requires room { has_room self.old ≡ true }
-        ensures fed { self.new ≡ fed self.old (take result bytes.now) }
-        ensures bound { (0 < result) × (result ≤ length bytes.now) }
-    {
-        match memchr(b'\n', bytes) {
-            Some(end) => {
-                self.end_line(&bytes[..end]);
-                end + 1
-            }
-            None => {
-                self.line.push_bytes(bytes);
-                bytes.len()
-            }
-        }
-    }
-
     // Takes in bytes, all of them unless the answers run out of room, and says how many. Where there is
     // room to begin with, it is at least one.
     pub fn feed(&mut self, bytes: &[u8]) -> usize
@@ -111,12 +92,18 @@ impl Stream {
         ensures all { has_room self.new ≡ true → result ≡ length bytes.now }
         ensures some { has_room self.old ≡ true → 0 < length bytes.now → 0 < result }
     {
-        let mut rest = bytes;
-        while !rest.is_empty() && self.has_room() {
-            let count = self.feed_line(rest);
-            rest = &rest[count..];
+        let mut taken = 0;
+        for end in memchr_iter(b'\n', bytes) {
+            if !self.has_room() {
+                return taken;
+            }
+            self.end_line(&bytes[taken..end]);
+            taken = end + 1;
         }
-        bytes.len() - rest.len()
+        if taken < bytes.len() {
+            self.line.push_bytes(&bytes[taken..]);
+        }
+        bytes.len()
     }
 
     // The input has ended: a last line that lacks its byte 10 is answered too, if there is room.

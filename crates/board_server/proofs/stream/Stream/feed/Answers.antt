@@ -1,16 +1,47 @@
-use Rattle.std.proofs.Common.{◌-◌, length, take, drop, refl, arith}
-use Rattle.board_server.proofs.FedBytes.{fed_on, fewer, left_on}
+use Rattle.std.proofs.Common.{◌-◌, ◌<◌, length, take, drop, sym, ap, ◌∙◌, arith}
+use Rattle.std.proofs.lemmas.List.{length-take, length-drop}
+use Rattle.memchr.specs.Find.{is_byte}
+use Rattle.board_server.specs.Served.{boards_of}
+use Rattle.board_server.specs.Streams.{streamed, fed}
+use Rattle.board_server.proofs.FedBytes.{inside_part, with_end, fed_on, fed_part}
+use Rattle.board_server.proofs.LinePlaces.{Leads, places_lead, places_none}
 use Rattle.board_server.proofs.stream.Stream.feed.Goals as goal
+use Rattle.board_server.proofs.stream.Stream.feed.Goals.{In-Some}
 
-pub loop-self-preserved : goal.loop-self-preserved
-loop-self-preserved c =
+-- the place that the iterator gave is where the next line ends
+leads : (c : In-Some) → Leads (is_byte 10) c.args.bytes.now c.loop-end.taken (length c.args.bytes.now) c.in-Some.end c.next.new.self
+leads c =
+    places_lead (is_byte 10) c.args.bytes.now c.loop-end.taken (length c.args.bytes.now) c.in-Some.end c.next.new.self c.loop-end.invariant.0 (sym c.loop-end.invariant.2 ∙ c.in-Some.ensures.steps)
+
+pub slice_bounds-end_line-count : goal.slice_bounds-end_line-count
+slice_bounds-end_line-count c = (leads (goal.at.slice_bounds-end_line-count c).In-Some).low
+
+pub slice_bounds-end_line-start : goal.slice_bounds-end_line-start
+slice_bounds-end_line-start c = (leads (goal.at.slice_bounds-end_line-start c).In-Some).low
+
+pub slice_bounds-end_line-end : goal.slice_bounds-end_line-end
+slice_bounds-end_line-end c = omega (arith, (leads (goal.at.slice_bounds-end_line-end c).In-Some).high)
+
+pub end_line-requires-clause-inside : goal.end_line-requires-clause-inside
+end_line-requires-clause-inside c =
+    let lead = leads (goal.at.end_line-requires-clause-inside c).In-Some in
+    inside_part c.args.bytes.now c.loop-end.taken c.in-Some.end lead.low lead.before
+
+pub loop-end-preserved : goal.loop-end-preserved
+loop-end-preserved c =
+    let lead = leads (goal.at.loop-end-preserved c).In-Some in
     let bytes = c.args.bytes.now in
-    let rest = c.loop-self.rest.now in
-    let count = c.feed_line-count.result in
-    let after = take (length rest - count) (drop count rest) in
-    let within = c.loop-self.invariant.0 in
-    let here = c.loop-self.invariant.1 in (
-      omega (arith, fewer bytes rest after count within here (omega arith) refl),
-      left_on bytes rest after count within here (omega arith) refl,
-      fed_on bytes rest after count within here (omega arith) refl c.args.self.now c.loop-self.self _ c.loop-self.invariant.2 c.feed_line-count.ensures.fed,
-    )
+    let line = c.end_line.ensures ∙ ap (fed c.loop-end.self) (with_end bytes c.loop-end.taken c.in-Some.end lead.low lead.high lead.here) in
+    (omega (arith, lead.high), fed_on bytes c.loop-end.taken _ (omega (arith, lead.low)) c.args.self.now c.loop-end.self _ c.loop-end.invariant.1 line, lead.rest)
+
+pub returns-then-taken-bytes-clause-fed : goal.returns-then-taken-bytes-clause-fed
+returns-then-taken-bytes-clause-fed c =
+    let self = c.self.inside in
+    let bytes = c.args.bytes.now in
+    let taken = c.loop-end.taken in
+    let none = places_none (is_byte 10) bytes taken (length bytes) c.loop-end.invariant.0 (sym c.loop-end.invariant.2 ∙ c.in-None.ensures.steps.0) in
+    let inside = inside_part bytes taken (length bytes) c.loop-end.invariant.0 none in
+    let part = take (length bytes - taken) (drop taken bytes) in
+    let some : 0 < length part = omega (arith, length-take (length bytes - taken) (drop taken bytes), length-drop taken bytes, c.if-taken-bytes.true) in
+    let rest = ap (λ l. streamed (boards_of self.server) l self.text) c.push_bytes.ensures ∙ fed_part (boards_of self.server) self.text self.line part some inside ∙ ap (λ s. fed s part) c.self.view_is in
+    fed_on bytes taken (length bytes) c.loop-end.invariant.0 c.args.self.now c.loop-end.self _ c.loop-end.invariant.1 rest
