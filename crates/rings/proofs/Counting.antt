@@ -45,7 +45,7 @@ pub count_fewer :
     (m : ℕ) → f m ≡ false → g m ≡ true → (n : ℕ) → m < n → count_below f n < count_below g n
 count_fewer f g weaker m fails passes n l =
     let one = count_one g m passes n l in
-    let w = count_weaker f (without g m) (λ k t. grind (arith, weaker, cases_eq)) n in
+    let w = count_weaker f (without g m) (λ k t. grind arith) n in
     omega arith
 
 -- a list of the numbers that pass, each once, is as long as they are many
@@ -56,7 +56,7 @@ count_listed [] test n once within only all = grind (arith, count_none)
 count_listed (p ∷ ps) test n once within only all =
     let one = count_one test p (only p (inl refl)) n (within p (inl refl)) in
     let others : (q : ℕ) → In q ps → without test p q ≡ true =
-    λ q i. let o = only q (inr i) in let d = cases_eq q p in grind (arith, once.0) in
+    λ q i. let o = only q (inr i) in let d = cases_eq q p in grind arith in
     let listed : (q : ℕ) → without test p q ≡ true → In q ps =
     λ q t. elim (all q (grind arith)) [ inl e ↦ absurd (grind arith) | inr i ↦ i ] in
     let ih = count_listed ps (without test p) n once.1 (λ q i. within q (inr i)) others listed in

@@ -20,12 +20,12 @@ module _ {K : Type 0} {order : K → K → Ordering} (laws : Lawful order) (buck
     -- the new next of c is x, which is in ring, and the next of x is c's old one
     next_in_ring' : (p : ℕ) → w.in_ring p ≡ true → w.in_ring (w.next p) ≡ true
     next_in_ring' p i =
-        grind (arith, t.others, t.rest, t.behind, t.ahead, t.entered, cases_eq, s.next_in_ring)
+        grind arith
 
     -- x is in the bucket of c
     next_in_bucket' : (p : ℕ) → w.in_ring p ≡ true → bucket (w.key (w.next p)) ≡ bucket (w.key p)
     next_in_bucket' p i =
-        grind (arith, t.keys, t.others, t.rest, t.behind, t.ahead, t.entered, cases_eq, s.next_in_bucket)
+        grind arith
 
     -- nothing is on the two new arcs, since they are parts of the old one, and x is on no other, since it lies on one arc only
     nothing_between' : (p q : ℕ) → w.in_ring p ≡ true → w.in_ring q ≡ true → bucket (w.key q) ≡ bucket (w.key p) →
@@ -46,7 +46,7 @@ module _ {K : Type 0} {order : K → K → Ordering} (laws : Lawful order) (buck
         let a3 = arc_without_start laws (v.key x) (v.key (v.next c)) in
         let a4 = arc_without_end laws (v.key c) (v.key x) in
         let a5 = arcs_with_one_key laws (v.key c) (v.key (v.next c)) (v.key p) (v.key (v.next p)) (v.key x) arc in
-        grind (arith, t.keys, t.rest, t.behind, t.ahead, t.entered)
+        grind arith
 
     -- x is alike to nothing in ring, since its key missed
     unlike' : (p q : ℕ) → w.in_ring p ≡ true → w.in_ring q ≡ true → order (w.key p) (w.key q) ≡ Equal → p ≡ q
@@ -60,7 +60,7 @@ module _ {K : Type 0} {order : K → K → Ordering} (laws : Lawful order) (buck
         let s2 = m p in
         let s3 = m q in
         let s4 = (total_preorder laws).alike_turned (v.key p) (v.key q) in
-        grind (arith, t.keys)
+        grind arith
 
     -- the heads are as they were
     linked_sound : Sound order bucket w
@@ -71,12 +71,12 @@ module _ {K : Type 0} {order : K → K → Ordering} (laws : Lawful order) (buck
       unlike = unlike';
       head_in_ring = λ b h e.
           let r = s.head_in_ring b h (sym (t.heads b) ∙ e) in
-          grind (arith, t.entered, cases_eq, t.others);
+          grind arith;
       head_in_bucket = λ b h e.
           let r = s.head_in_bucket b h (sym (t.heads b) ∙ e) in
-          grind (arith, t.keys);
+          grind arith;
       no_head = λ p i e.
-          grind (arith, cases_eq, t.others, t.keys, t.heads, s.no_head);
+          grind arith;
     }
 
   -- x is linked behind c
@@ -87,25 +87,25 @@ module _ {K : Type 0} {order : K → K → Ordering} (laws : Lawful order) (buck
       (x-out : v.in_ring x ≡ false) (headless : v.head (bucket (v.key x)) ≡ None) where
     -- the bucket of x has nothing in ring
     empty : (p : ℕ) → v.in_ring p ≡ true → bucket (v.key p) ≡ bucket (v.key x) → ⊥
-    empty p i b = grind (arith, s.no_head)
+    empty p i b = grind arith
 
     -- so x meets no other place, and the other rings are as they were
     linked_alone_sound : Sound order bucket w
     linked_alone_sound = record {
       next_in_ring = λ p i.
-          grind (arith, t.others, t.rest, t.alone, t.entered, cases_eq, s.next_in_ring);
+          grind arith;
       next_in_bucket = λ p i.
-          grind (arith, t.others, t.rest, t.alone, t.keys, cases_eq, s.next_in_bucket);
+          grind arith;
       nothing_between = λ p q ip iq b.
-          grind (arith, t.rest, t.alone, t.keys, cases_eq, t.others, s.nothing_between, empty, arc_without_start);
+          grind (arith, t.alone, cases_eq, s.nothing_between, arc_without_start);
       unlike = λ p q ip iq e.
-          grind (arith, t.keys, cases_eq, t.others, s.unlike, empty, alike_bucket);
+          grind arith;
       head_in_ring = λ b h e.
-          grind (arith, t.others, t.heads, t.headed, t.entered, cases_eq, s.head_in_ring);
+          grind arith;
       head_in_bucket = λ b h e.
-          grind (arith, t.keys, t.heads, t.headed, cases_eq, s.head_in_bucket);
+          grind arith;
       no_head = λ p i e.
-          grind (arith, t.headed, cases_eq, t.others, t.keys, t.heads, s.no_head);
+          grind arith;
     }
 
   -- x is linked alone in its bucket

@@ -13,19 +13,19 @@ untouched_keeps_sound order bucket v w s t =
     let old = λ (p : ℕ) (i : w.in_ring p ≡ true). sym (t.same p) ∙ i in
     record {
       next_in_ring = λ p i.
-          grind (arith, t.same, old, t.nexts, s.next_in_ring);
+          grind arith;
       next_in_bucket = λ p i.
-          grind (arith, old, t.nexts, t.keys, s.next_in_bucket);
+          grind arith;
       nothing_between = λ p q i j b.
-          grind (arith, old, t.nexts, t.keys, s.nothing_between);
+          grind arith;
       unlike = λ p q i j e.
-          grind (arith, old, t.keys, s.unlike);
+          grind arith;
       head_in_ring = λ b h e. t.same h ∙ s.head_in_ring b h (sym (t.heads b) ∙ e);
       head_in_bucket = λ b h e.
           let was = sym (t.heads b) ∙ e in
-          grind (arith, t.keys, s.head_in_bucket);
+          grind arith;
       no_head = λ p i e.
-          grind (arith, old, t.keys, s.no_head, t.heads);
+          grind arith;
     }
 
 module _ {K : Type 0} {order : K → K → Ordering} (laws : Lawful order) (bucket : K → ℕ) where
@@ -45,7 +45,7 @@ module _ {K : Type 0} {order : K → K → Ordering} (laws : Lawful order) (buck
       (v : View K) (c p : ℕ) → Sound order bucket v →
       v.in_ring c ≡ true → v.next c ≡ p → (c ≡ p → ⊥) → v.next p ≡ p → ⊥
   not_own_next v c p s c-in c-next c-not-p e =
-      grind (arith, s.next_in_ring, next_one_to_one)
+      grind (arith, next_one_to_one)
 
   -- a place that is its own next is alone: its arc goes all the way round
   pub alone_in_bucket : AloneLaw order bucket

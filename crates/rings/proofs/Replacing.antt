@@ -27,16 +27,16 @@ module _ {K : Type 0} {order : K → K → Ordering} (laws : Lawful order) (buck
 
     -- p has left
     not_p : (q : ℕ) → w.in_ring q ≡ true → q ≡ p → ⊥
-    not_p q i e = grind (arith, t.left)
+    not_p q i e = grind arith
 
     -- what is in ring was in ring
     was_in_ring : (q : ℕ) → w.in_ring q ≡ true → v.in_ring (was q) ≡ true
     was_in_ring q i =
-        grind (arith, cases_eq, not_p, t.others, in_ring_p)
+        grind arith
 
     -- what was in ring is not x, so it stands where it stood
     was_same : (q : ℕ) → v.in_ring q ≡ true → was q ≡ q
-    was_same q i = grind (arith, cases_eq)
+    was_same q i = grind arith
 
     -- the nexts lead to the same places
     was_next : (q : ℕ) → w.in_ring q ≡ true → v.next (was q) ≡ was (w.next q)
@@ -44,14 +44,14 @@ module _ {K : Type 0} {order : K → K → Ordering} (laws : Lawful order) (buck
         let n = not_p q i in
         let m = was_same (v.next (was q)) (s.next_in_ring (was q) (was_in_ring q i)) in
         elim (cases_eq q x) [
-          | inl e ↦ grind (arith, cases_eq, t.ahead, t.alone)
-          | inr ne ↦ grind (arith, cases_eq, t.behind, t.rest)
+          | inl e ↦ grind arith
+          | inr ne ↦ grind arith
         ]
 
     -- the keys are alike
     was_key : (q : ℕ) → order (w.key q) (v.key (was q)) ≡ Equal
     was_key q =
-        grind (arith, cases_eq, t.keys, (total_preorder laws).alike_itself)
+        grind arith
 
     -- the buckets are equal
     was_bucket : (q : ℕ) → bucket (w.key q) ≡ bucket (v.key (was q))
@@ -60,11 +60,11 @@ module _ {K : Type 0} {order : K → K → Ordering} (laws : Lawful order) (buck
     -- no two places stood at one
     was_one_to_one : (q r : ℕ) → w.in_ring q ≡ true → w.in_ring r ≡ true → was q ≡ was r → q ≡ r
     was_one_to_one q r i j e =
-        grind (arith, not_p, cases_eq)
+        grind arith
 
     -- what was in ring and is not p stays
     stays : (q : ℕ) → v.in_ring q ≡ true → (q ≡ p → ⊥) → w.in_ring q ≡ true
-    stays q i n = grind (arith, cases_eq, t.others)
+    stays q i n = grind arith
 
     -- no next is p: c's is x now, and only c had p as its next
     next_in_ring' : (q : ℕ) → w.in_ring q ≡ true → w.in_ring (w.next q) ≡ true
@@ -81,7 +81,7 @@ module _ {K : Type 0} {order : K → K → Ordering} (laws : Lawful order) (buck
         let r = t.rest q n in
         let o = t.others q n in
         let u = λ (a : v.in_ring q ≡ true). next_one_to_one laws bucket v q c s a c-in in
-        grind (arith, t.behind, t.ahead, t.alone, t.entered)
+        grind arith
 
     -- alike keys were alike
     was_alike : (q r : ℕ) → order (w.key q) (w.key r) ≡ Equal → order (v.key (was q)) (v.key (was r)) ≡ Equal
@@ -102,11 +102,11 @@ module _ {K : Type 0} {order : K → K → Ordering} (laws : Lawful order) (buck
       unlike = λ q r i j e.
           was_one_to_one q r i j (s.unlike (was q) (was r) (was_in_ring q i) (was_in_ring r j) (was_alike q r e));
       head_in_ring = λ b h e.
-          grind (arith, t.entered, holds_cases, cases_eq, t.headed, t.heads, s.head_in_ring, stays);
+          grind arith;
       head_in_bucket = λ b h e.
-          grind (arith, holds_cases, t.headed, t.heads, s.head_in_bucket, t.keys, alike_bucket);
+          grind arith;
       no_head = λ q i e.
-          grind (arith, bucket, holds_cases, t.headed, t.heads, s.no_head, was_bucket);
+          grind arith;
     }
 
   -- x takes the place of p

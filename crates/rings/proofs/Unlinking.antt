@@ -42,9 +42,9 @@ module _ {K : Type 0} {order : K → K → Ordering} (laws : Lawful order) (buck
     unlinked_sound : Sound order bucket w
     unlinked_sound = record {
       next_in_ring = λ q i.
-          grind (arith, t.behind, was, cases_eq, s.next_in_ring, next_one_to_one, t.rest, t.others);
+          grind (arith, t.behind, cases_eq, next_one_to_one, t.rest);
       next_in_bucket = λ q i.
-          grind (arith, t.keys, t.behind, was, cases_eq, s.next_in_bucket, t.rest);
+          grind arith;
       -- nothing is on the joined arc: it would be on one of the two old ones, or alike to p
       nothing_between = λ q r i j b.
           let o = was q i in
@@ -57,9 +57,9 @@ module _ {K : Type 0} {order : K → K → Ordering} (laws : Lawful order) (buck
           let n = t.rest q o.1 in
           let a = arc_split laws (v.key c) (v.key r) (v.key p) (v.key (v.next p)) in
           let u = s.unlike r p o'.0 in_ring_p in
-          grind (arith, t.keys, t.behind);
+          grind arith;
       unlike = λ q r i j e.
-          grind (arith, t.keys, s.unlike);
+          grind arith;
       head_in_ring = λ b h e.
           let d1 = holds_cases (v.head b) p in
           let d2 = cases_eq h p in
@@ -80,7 +80,7 @@ module _ {K : Type 0} {order : K → K → Ordering} (laws : Lawful order) (buck
           let k = t.keys h in
           grind arith;
       no_head = λ q i e.
-          grind (arith, bucket, holds_cases, t.headed, t.heads, s.no_head, t.keys);
+          grind arith;
     }
 
   -- p is taken out behind c
@@ -97,19 +97,19 @@ module _ {K : Type 0} {order : K → K → Ordering} (laws : Lawful order) (buck
     unlinked_last_sound : Sound order bucket w
     unlinked_last_sound = record {
       next_in_ring = λ q i.
-          grind (arith, was_last, s.next_in_ring, t.rest, t.others, cases_eq, next_one_to_one);
+          grind (arith, s.next_in_ring, t.others, next_one_to_one);
       next_in_bucket = λ q i.
-          grind (arith, t.keys, was_last, s.next_in_bucket, t.rest);
+          grind arith;
       nothing_between = λ q r i j b.
-          grind (arith, t.keys, was_last, s.nothing_between, t.rest);
+          grind arith;
       unlike = λ q r i j e.
-          grind (arith, t.keys, s.unlike);
+          grind arith;
       head_in_ring = λ b h e.
-          grind (arith, holds_cases, cases_eq, t.headless, t.heads, s.head_in_ring, t.others);
+          grind arith;
       head_in_bucket = λ b h e.
-          grind (arith, holds_cases, t.headless, t.heads, s.head_in_bucket, t.keys);
+          grind arith;
       no_head = λ q i e.
-          grind (arith, was_last, bucket, holds_cases, t.headless, t.heads, s.no_head, s.head_in_bucket, t.keys, alone_in_bucket);
+          grind (arith, was_last, holds_cases, t.heads, s.head_in_bucket, alone_in_bucket);
     }
 
   -- p, its own next, is taken out

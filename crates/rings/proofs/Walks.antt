@@ -72,7 +72,7 @@ module _ {K : Type 0} {order : K → K → Ordering} (laws : Lawful order) (buck
       (λ k t. grind (arith, arc_back))
       (v.next p)
       (grind (arith, arc_without_start))
-      (grind (arith, eq-eqb))
+      (grind arith)
       n (within (v.next p) m.0)
 
   -- the last place of a way
@@ -160,7 +160,7 @@ module _ {K : Type 0} {order : K → K → Ordering} (laws : Lawful order) (buck
   way_length places way =
       count_listed places (in_bucket bucket v b) n way.once
       (λ p i. within p (way.here p i).0)
-      (λ p i. grind (arith, way.here, eq-eqb))
+      (λ p i. grind arith)
       (λ p t. let j : Here bucket v b p = (grind arith, grind arith) in way.all p j (around p j))
 
   -- the way from h round to h is the ring list
