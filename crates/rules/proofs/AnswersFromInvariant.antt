@@ -34,7 +34,7 @@ module _ {K V : Type 0} (order : K → K → Ordering) (digest : K → Hash) (pl
   answer_here s e present h =
       let r = nth_within st.requests s (omega arith) in
       let k = r.1 in
-      grind (arith, inv.shape.requests_long)
+      grind arith
 
   -- at each stage of a session
   given_at : (s : ℕ) (session : Session) → slice_get st.core.sessions s ≡ Some session → (stage : Stage) → session.stage ≡ stage → given (collect_stage st s stage).0 ≡ noted (plain.notes s)

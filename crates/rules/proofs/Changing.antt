@@ -30,7 +30,7 @@ module _ {X Y : Type 0} (part : Option X → Y) (f : X → X) (xs : List X) wher
     where
       go : (b : Bool) → eqb j i ≡ b → (o : Option X) → slice_get xs j ≡ o → part (cond b (option_map f o) o) ≡ cond b y (part o)
       go true same (Some x) e = sets x
-      go true same None e = let there = nth_within xs i h in let at = there.1 in absurd (grind (arith, nat_tests))
+      go true same None e = let there = nth_within xs i h in let at = there.1 in absurd (grind arith)
       go false other o e = refl
 
   -- a part that a change leaves alone is what it was
@@ -177,4 +177,4 @@ module _ {K V : Type 0} (d : K) (e : V) (core : Core) (heads : List ℕ) (items 
 
 -- a head that is none, or a place of a table that is not too long, reads as it was written
 pub head_reads : (p : ℕ) → p < 4096 → head_in (Some p) ≡ Some p
-head_reads p h = grind (arith, nat_tests)
+head_reads p h = grind arith

@@ -107,7 +107,7 @@ module _ {K V : Type 0} (order : K → K → Ordering) (digest : K → Hash) (la
         where
           read : (b : Bool) → eqb h none ≡ b → cond b (Ok None) (cond (ltb h st.core.places) (Ok (Some h)) (Err OutsideTable)) ≡ Ok (cond b None (Some h))
           read true t = refl
-          read false t = let i = ringed h (ap head_in at ∙ ap (λ b. cond b None (Some h)) t) in grind (arith, lt-ltb)
+          read false t = let i = ringed h (ap head_in at ∙ ap (λ b. cond b None (Some h)) t) in grind arith
 
   -- an item with the rank of the sought key has a key alike to it
   alike_ranked : (p : ℕ) (it : Item K V) → slice_get st.items p ≡ Some it → has_rank order digest st r.key it.key ≡ true → order (w.key p) (w.want s) ≡ Equal

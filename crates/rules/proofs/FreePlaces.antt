@@ -15,16 +15,16 @@ use Rattle.rules.proofs.Views.{whole, stage_in, cursor_at}
 
 -- a session at this stage that stands on p has its cursor there
 stands_cursor : (p : ℕ) (stage : Stage) → stands_on p stage ≡ true → cursor_at stage ≡ Some p
-stands_cursor p stage h = grind (arith, nat_tests)
+stands_cursor p stage h = grind arith
 
 -- and one that has its cursor on p stands there
 cursor_stands : (p : ℕ) (stage : Stage) → cursor_at stage ≡ Some p → stands_on p stage ≡ true
-cursor_stands p stage h = grind (arith, nat_tests)
+cursor_stands p stage h = grind arith
 
 -- if p is not stood on, no session has its cursor there
 not_stood_on : (p : ℕ) (ss : List Session) → is_stood_on p ss ≡ false → (s : ℕ) → cursor_at (stage_in (slice_get ss s)) ≡ Some p → ⊥
 not_stood_on p [] h s e = grind arith
-not_stood_on p (x ∷ ss) h zero e = grind (arith, cursor_stands)
+not_stood_on p (x ∷ ss) h zero e = grind arith
 not_stood_on p (x ∷ ss) h (suc s) e = not_stood_on p ss (grind arith) s e
 
 -- if p is stood on, some session has its cursor there
@@ -46,11 +46,11 @@ none_passes : (test : ℕ → Bool) (n p left : ℕ) → first_from test n p lef
     (q : ℕ) → q < n → ((p ≤ q) × (q < p + left)) ⊎ (q + n < p + left) → test q ≡ false
 none_passes test n p zero e p-in q q-in reach = absurd (grind arith)
 none_passes test n p (suc left) e p-in q q-in reach =
-    let after-in : place_after n p < n = grind (arith, nat_tests) in
+    let after-in : place_after n p < n = grind arith in
     let ih = none_passes test n (place_after n p) left (grind arith) after-in q q-in in
     elim (cases_eq q p) [
       | inl here ↦ grind arith
-      | inr ahead ↦ ih (grind (arith, nat_tests))
+      | inr ahead ↦ ih (grind arith)
     ]
 
 module _ {K V : Type 0} (d : K) (e : V) (st : State K V) (shape : Shape st) where
@@ -80,7 +80,7 @@ module _ {K V : Type 0} (d : K) (e : V) (st : State K V) (shape : Shape st) wher
   none_free found p p-in out =
       let n = st.core.places in
       let hand = shape.hand_within in
-      let after-in : place_after n st.core.hand < n = grind (arith, nat_tests) in
+      let after-in : place_after n st.core.hand < n = grind arith in
       let fails = none_passes (is_free st) n (place_after n st.core.hand) n found after-in p p-in (grind arith) in
       let long = shape.items_long in
       let here = nth_within st.items p (omega arith) in

@@ -43,11 +43,11 @@ count_this c zero = omega arith
 count_this c (suc n) =
     let ih = count_this c n in
     let none : c ≡ n → count_below (λ p. eqb c p) n ≡ 0 = λ e. not_below c n (omega arith) in
-    grind (arith, nat_tests)
+    grind arith
   where
     not_below : (c n : ℕ) → n ≤ c → count_below (λ p. eqb c p) n ≡ 0
     not_below c zero h = refl
-    not_below c (suc n) h = let ih = not_below c n (omega arith) in grind (arith, nat_tests)
+    not_below c (suc n) h = let ih = not_below c n (omega arith) in grind arith
 
 -- and so with a number or none
 count_at : (o : Option ℕ) (n : ℕ) → count_below (λ p. is_at p o) n ≤ 1

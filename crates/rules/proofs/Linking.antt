@@ -67,23 +67,23 @@ module _ {K V : Type 0} {order rank : K → K → Ordering} {bucket : K → ℕ}
         keys = λ p. refl;
         wants = λ t. refl;
         gifts = λ t far. refl;
-        stages = λ t far. grind (arith, nat_tests);
-        notes = λ t far. grind (arith, nat_tests);
+        stages = λ t far. grind arith;
+        notes = λ t far. grind arith;
         operation = operation.Insert;
         present = false;
-        stage = grind (arith, nat_tests);
-        note = grind (arith, nat_tests, was_absent);
-        in_use = λ p h z. grind (arith, nat_tests, cases_eq);
-        in_ring = λ p i h. grind (arith, nat_tests, cases_eq);
-        set_aside = λ p i. (grind (arith, nat_tests), λ z. grind (arith, nat_tests));
-        marked = λ p i. (i, λ z. grind (arith, nat_tests));
+        stage = grind arith;
+        note = grind arith;
+        in_use = λ p h z. grind arith;
+        in_ring = λ p i h. grind (arith, nat_tests);
+        set_aside = λ p i. (grind arith, λ z. grind arith);
+        marked = λ p i. (i, λ z. grind arith);
         aside_stays = λ t y far h.
             let a = k.aside_state t y h in
             let b = k.aside_apart t s y h in
-            grind (arith, nat_tests);
+            grind arith;
         aside_value = λ t y far h. refl;
         aside_next = aside;
-        claim_stays = λ t p far h. grind (arith, nat_tests, k.claim_state);
+        claim_stays = λ t p far h. grind arith;
         claim_mark = λ t p far h. k.claim_mark t p h;
         claim_next = λ t p far h. claimed t p h;
       }
@@ -99,9 +99,9 @@ module _ {K V : Type 0} {order rank : K → K → Ordering} {bucket : K → ℕ}
         keys = λ p. refl;
         stayed = λ p far i. grind (arith, nat_tests);
         values = λ p far i. refl;
-        stays = λ p far i. grind (arith, nat_tests);
+        stays = λ p far i. grind arith;
         here = λ p h i. let d = cases_eq p x in let u = unlike p in grind (arith, nat_tests);
-        there = λ u e. (x, grind (arith, nat_tests), grind arith);
+        there = λ u e. (x, grind arith, grind arith);
       }
 
   -- one more is in ring
@@ -141,17 +141,17 @@ module _ {K V : Type 0} {order rank : K → K → Ordering} {bucket : K → ℕ}
       let w = entered s x (changed x x v.next) (changed (bucket (v.want s)) (Some x) v.head) v in
       let linked : LinkedAlone (rings_of v) (rings_of w) (bucket (v.key x)) x = record {
         keys = λ p. refl;
-        entered = grind (arith, nat_tests);
-        others = λ p far. grind (arith, nat_tests);
-        alone = grind (arith, nat_tests);
-        rest = λ p far. grind (arith, nat_tests);
-        headed = grind (arith, nat_tests);
-        heads = λ b far. grind (arith, nat_tests);
+        entered = grind arith;
+        others = λ p far. grind arith;
+        alone = grind arith;
+        rest = λ p far. grind arith;
+        headed = grind arith;
+        heads = λ b far. grind arith;
       } in
       entered_kept kind v s x None (changed x x v.next) (changed (bucket (v.want s)) (Some x) v.head) k at
-      (λ p i e. grind (arith, k.rings.no_head, kind.one_bucket))
-      (λ t p h. grind (arith, nat_tests, k.claim_state))
-      (λ t y far h. let j = ap aside_at at in grind (arith, nat_tests, k.aside_apart))
+      (λ p i e. grind arith)
+      (λ t p h. grind arith)
+      (λ t y far h. let j = ap aside_at at in grind arith)
       (link_alone_keeps_sound kind.ranked bucket (λ a b e. kind.one_bucket a b (kind.same_rank a b e)) (rings_of v) (rings_of w) x k.rings linked
       (ap is_in_ring aside) empty)
 
@@ -172,17 +172,17 @@ module _ {K V : Type 0} {order rank : K → K → Ordering} {bucket : K → ℕ}
       let linked : Linked (rings_of v) (rings_of w) c x = record {
         keys = λ p. refl;
         heads = λ b. refl;
-        entered = grind (arith, nat_tests);
-        others = λ p far. grind (arith, nat_tests);
-        behind = grind (arith, nat_tests);
-        ahead = grind (arith, nat_tests);
-        rest = λ p far nor. grind (arith, nat_tests);
+        entered = grind arith;
+        others = λ p far. grind arith;
+        behind = grind arith;
+        ahead = grind arith;
+        rest = λ p far nor. grind arith;
       } in
       entered_kept kind v s x (Some c) next v.head k at
       (λ p i e. miss_is_right kind.ranked bucket one_bucket (rings_of v) c (v.want s) k.rings (ap is_in_ring c-in) stood arc' p (ap is_in_ring i)
       (kind.rank_same (v.key p) (v.want s) e))
-      (λ t p h. grind (arith, nat_tests, k.claim_state, k.claim_mark))
-      (λ t y far h. let j = ap aside_at at in grind (arith, nat_tests, k.aside_apart, k.aside_state))
+      (λ t p h. grind arith)
+      (λ t y far h. let j = ap aside_at at in grind arith)
       (link_keeps_sound kind.ranked bucket one_bucket (rings_of v) (rings_of w) c x k.rings linked
       (ap is_in_ring c-in) (ap is_in_ring aside) (ap bucket key ∙ sym stood) (ap (λ q. between rank (v.key c) q (v.key (v.next c))) key ∙ arc'))
 

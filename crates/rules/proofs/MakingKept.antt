@@ -29,7 +29,7 @@ module _ {K V : Type 0} (order rank : K → K → Ordering) (bucket : K → ℕ)
 
   -- nothing is set aside
   not_set_aside : (p : ℕ) → w.state p ≡ SetAside → ⊥
-  not_set_aside p e = grind (arith, out)
+  not_set_aside p e = grind arith
 
   -- the invariant holds of it, with the empty plain table
   empty_kept : Kept order rank bucket fresh n w

@@ -64,31 +64,31 @@ module _ {K V : Type 0} (order : K → K → Ordering) (digest : K → Hash) (st
   here_wants_none = head_wants_none st.core.places (slice_get st.heads (bucket_of order digest st.core.bits q))
 
   pair_wants_none : (j : Job) (pair : ℕ × ℕ) (it nx : Item K V) → wants_place (on_pair order digest st q j pair it nx) ≡ false
-  pair_wants_none j pair it nx = grind (arith, next_wants_none)
+  pair_wants_none j pair it nx = grind arith
 
   item_wants_none : (j : Job) (c : ℕ) (o : Option (Item K V)) → wants_place (on_item order digest st q j c o) ≡ false
   item_wants_none j c None = refl
   item_wants_none j c (Some it) =
-      grind (arith, next_wants_none, pair_wants_none)
+      grind arith
 
   ready_wants_none : (pair : ℕ × ℕ) (o : Option (Item K V)) → wants_place (swing_ready order digest st q pair o) ≡ false
   ready_wants_none pair None = refl
-  ready_wants_none pair (Some it) = grind (arith, next_wants_none)
+  ready_wants_none pair (Some it) = grind arith
 
   replace_wants_none : (x : ℕ) (pair : ℕ × ℕ) (o : Option (Item K V)) → wants_place (replace_claimed order digest st q x pair o) ≡ false
-  replace_wants_none x pair o = grind (arith, here_wants_none)
+  replace_wants_none x pair o = grind arith
 
   remove_wants_none : (pair : ℕ × ℕ) (o : Option (Item K V)) → wants_place (remove_claimed order digest st q pair o) ≡ false
   remove_wants_none pair None = refl
-  remove_wants_none pair (Some it) = grind (arith, here_wants_none, next_wants_none)
+  remove_wants_none pair (Some it) = grind arith
 
   decide_wants_none : (w : Work) → wants_place (decide order digest st q w) ≡ false
-  decide_wants_none (Seeking j None) = grind (arith, here_wants_none)
+  decide_wants_none (Seeking j None) = grind arith
   decide_wants_none (Seeking j (Some c)) = item_wants_none j c (slice_get st.items c)
   decide_wants_none (Replacing x pair) =
-      grind (arith, ready_wants_none, replace_wants_none)
+      grind arith
   decide_wants_none (Removing pair) =
-      grind (arith, ready_wants_none, remove_wants_none)
+      grind arith
 
 module _ {K V : Type 0} (order : K → K → Ordering) (digest : K → Hash) (st : State K V) (s : ℕ) where
   -- nor a turn

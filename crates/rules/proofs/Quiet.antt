@@ -123,9 +123,9 @@ head_sound {bucket = bucket} v b p s i e = record {
   next_in_bucket = s.next_in_bucket;
   nothing_between = s.nothing_between;
   unlike = s.unlike;
-  head_in_ring = λ a h j. grind (arith, cases_eq, s.head_in_ring);
-  head_in_bucket = λ a h j. grind (arith, cases_eq, s.head_in_bucket);
-  no_head = λ q j none. grind (arith, cases_eq, s.no_head);
+  head_in_ring = λ a h j. grind arith;
+  head_in_bucket = λ a h j. grind arith;
+  no_head = λ q j none. grind arith;
 }
 
 -- a head that moves to a place in ring of its bucket keeps the invariant

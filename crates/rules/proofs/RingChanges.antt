@@ -26,7 +26,7 @@ pub count_more :
     (f g : ℕ → Bool) (m : ℕ) → f m ≡ false → g m ≡ true → ((p : ℕ) → (p ≡ m → ⊥) → g p ≡ f p) →
     (n : ℕ) → m < n → count_below g n ≡ suc (count_below f n)
 count_more f g m fails passes same n l =
-    let others : (p : ℕ) → without g m p ≡ f p = λ p. (grind (arith, nat_tests, cases_eq, same)) in
+    let others : (p : ℕ) → without g m p ≡ f p = λ p. (grind arith) in
     count_one g m passes n l ∙ ap (λ test. suc (count_below test n)) (fun_ext others)
 
 -- the plain table after session s has done this operation

@@ -30,7 +30,7 @@ first_is (p ∷ ps) = refl
 -- a head that is read is the number that is written
 head_written : (o : Option ℕ) (h : ℕ) → head_in o ≡ Some h → o ≡ Some h
 head_written None h e = absurd cc
-head_written (Some x) h e = grind (arith, cases_Bool)
+head_written (Some x) h e = grind arith
 
 -- where none is read, the number that stands for none is written
 no_head_written : (x : ℕ) → head_in (Some x) ≡ None → x ≡ none

@@ -13,7 +13,7 @@ module _ {K V : Type 0} (st : State K V) (shape : Shape st) where
   -- the first check of every call passes
   pub as_made : is_as_made st ≡ true
   as_made =
-      grind (arith, shape.made, eq-eqb)
+      grind arith
 
   -- so a session is refused only where the record has none
   pub seat_of : (s : ℕ) → seat st s ≡ ok_or (slice_get st.core.sessions s) NoSession

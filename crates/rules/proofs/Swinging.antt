@@ -43,7 +43,7 @@ heads_after (Becomes o) b heads = changed b o heads
 
 -- a head that was p becomes what follows it
 head_follows : (heads : ℕ → Option ℕ) (p b : ℕ) (to : Option ℕ) (h : HeadMove) → h ≡ followed p to (heads b) → heads b ≡ Some p → heads_after h b heads b ≡ to
-head_follows heads p b to h e i = let f : h ≡ Becomes to = grind (arith, nat_tests) in ap (λ m. heads_after m b heads b) f ∙ grind (arith, nat_tests)
+head_follows heads p b to h e i = let f : h ≡ Becomes to = grind arith in ap (λ m. heads_after m b heads b) f ∙ grind arith
 
 -- a head that was not p stays
 head_stays :
@@ -52,8 +52,8 @@ head_stays :
 head_stays heads p b to Stays e a far = refl
 head_stays heads p b to (Becomes o) e a far =
     elim (cases_eq a b) [
-      | inl here ↦ (let i : heads b ≡ Some p = grind (arith, nat_tests) in absurd (far (ap heads here ∙ i)))
-      | inr other ↦ grind (arith, nat_tests)
+      | inl here ↦ (let i : heads b ≡ Some p = grind arith in absurd (far (ap heads here ∙ i)))
+      | inr other ↦ grind arith
     ]
 
 -- session s ends with the value u, and p, which it had claimed, is marked no more; states, nexts and heads are given
@@ -111,22 +111,22 @@ module _ {K V : Type 0} {order rank : K → K → Ordering} {bucket : K → ℕ}
         record {
           keys = λ q. refl;
           wants = λ t. refl;
-          gifts = λ t far. grind (arith, nat_tests);
-          stages = λ t far. grind (arith, nat_tests);
-          notes = λ t far. grind (arith, nat_tests);
+          gifts = λ t far. grind arith;
+          stages = λ t far. grind arith;
+          notes = λ t far. grind arith;
           operation = o;
           present = true;
-          stage = grind (arith, nat_tests);
-          note = grind (arith, nat_tests);
+          stage = grind arith;
+          note = grind arith;
           in_use = λ q h z.
-              grind (arith, k.aside_state, others, cases_eq, holds_cases);
+              grind arith;
           in_ring = λ q h z.
-              grind (arith, k.aside_state, others, cases_eq, holds_cases);
+              grind arith;
           set_aside = λ q h.
               let far : q ≡ p → ⊥ = λ z. grind arith in
-              let not-mine : aside_at (v.stage s) ≡ Some q → ⊥ = λ z. (grind (arith, entered)) in
+              let not-mine : aside_at (v.stage s) ≡ Some q → ⊥ = λ z. (grind arith) in
               (sym (others q far not-mine) ∙ h, not-mine);
-          marked = λ q h. (grind (arith, nat_tests), λ z. let mine = ap claim_at at ∙ claim in grind (arith, nat_tests));
+          marked = λ q h. (grind arith, λ z. let mine = ap claim_at at ∙ claim in grind arith);
           aside_stays = λ t x far h.
               let a = k.aside_state t x h in
               others x (λ z. grind arith) (λ z. far (k.aside_apart t s x h z)) ∙ a;
@@ -136,7 +136,7 @@ module _ {K V : Type 0} {order rank : K → K → Ordering} {bucket : K → ℕ}
               let a = k.claim_state t q h in
               others q (other_claim t q far h).0 (λ z. let b = k.aside_state s q z in let y : ◌≡◌ {A = ℕ} 0 1 = cc in omega arith) ∙ a;
           claim_mark = λ t q far h.
-              grind (arith, nat_tests, k.claim_mark, (other_claim t q far h).0);
+              grind arith;
           claim_next = λ t q far h. rest q (other_claim t q far h).1;
         }
 
@@ -162,8 +162,8 @@ module _ {K V : Type 0} {order rank : K → K → Ordering} {bucket : K → ℕ}
       let b = k.claim_state s p (ap claim_at at) in
       let mine = ap aside_at at in
       swung_ends kind v s c p (Replacing x (c, p)) k at refl may operation.Replace u replaced_states (changed c x v.next)
-      (heads_after h (bucket (v.want s)) v.head) value (grind (arith, nat_tests)) (λ y e. grind (arith, nat_tests))
-      (λ q far nor. grind (arith, nat_tests, cases_eq)) (λ q far. grind (arith, nat_tests))
+      (heads_after h (bucket (v.want s)) v.head) value (grind arith) (λ y e. grind arith)
+      (λ q far nor. grind arith) (λ q far. grind arith)
 
   -- the sought key has the session's value: x holds them
   replaced_puts : Puts order v replaced_view (v.want s) (Some (v.gift s))
@@ -175,12 +175,12 @@ module _ {K V : Type 0} {order rank : K → K → Ordering} {bucket : K → ℕ}
       let alike = k.claim_key s p (ap claim_at at) in
       record {
         keys = λ q. refl;
-        stayed = λ q far i. grind (arith, nat_tests);
+        stayed = λ q far i. grind arith;
         values = λ q far i. refl;
-        stays = λ q far i. grind (arith, nat_tests);
+        stays = λ q far i. grind arith;
         here = λ q e i.
-            grind (arith, nat_tests, only_claimed, cases_eq);
-        there = λ w e. (x, grind (arith, nat_tests), grind arith);
+            grind arith;
+        there = λ w e. (x, grind arith, grind arith);
       }
 
   -- as many are in ring
@@ -191,8 +191,8 @@ module _ {K V : Type 0} {order rank : K → K → Ordering} {bucket : K → ℕ}
       let x-in = k.within x (λ z. grind arith) in
       let p-in = k.within p (λ z. grind arith) in
       count_one (λ q. is_in_ring (v.state q)) p (ap is_in_ring b) n p-in ∙
-      sym (count_more (without (λ q. is_in_ring (v.state q)) p) (λ q. is_in_ring (replaced_view.state q)) x (grind (arith, nat_tests)) (grind (arith, nat_tests))
-      (λ q far. grind (arith, nat_tests, cases_eq)) n x-in)
+      sym (count_more (without (λ q. is_in_ring (v.state q)) p) (λ q. is_in_ring (replaced_view.state q)) x (grind arith) (grind arith)
+      (λ q far. grind arith) n x-in)
 
   -- the plain table agrees
   replaced_agrees : Agrees order (done_by order s operation.Replace v plain) n replaced_view
@@ -212,13 +212,13 @@ module _ {K V : Type 0} {order rank : K → K → Ordering} {bucket : K → ℕ}
       let ahead = k.claim_next s p x (ap claim_at at) (ap aside_at at) in
       record {
         keys = λ q. refl;
-        left = grind (arith, nat_tests);
-        entered = grind (arith, nat_tests);
-        others = λ q far nor. grind (arith, nat_tests);
-        behind = λ far. grind (arith, nat_tests);
-        ahead = λ far. grind (arith, nat_tests);
-        alone = λ e. grind (arith, nat_tests);
-        rest = λ q far nor neither. grind (arith, nat_tests);
+        left = grind arith;
+        entered = grind arith;
+        others = λ q far nor. grind arith;
+        behind = λ far. grind arith;
+        ahead = λ far. grind arith;
+        alone = λ e. grind arith;
+        rest = λ q far nor neither. grind arith;
         headed = λ b e.
             let here : b ≡ bucket (v.want s) =
             sym (k.rings.head_in_bucket b p e) ∙ kind.one_bucket (v.key p) (v.want s) (k.claim_key s p (ap claim_at at)) in
@@ -255,8 +255,8 @@ module _ {K V : Type 0} {order rank : K → K → Ordering} {bucket : K → ℕ}
       let b = removed_in in
       let mine = ap aside_at at in
       swung_ends kind v s c p (Removing (c, p)) k at refl may operation.Remove u (changed p Out v.state) (changed c ahead v.next)
-      (heads_after h (bucket (v.want s)) v.head) value (grind (arith, nat_tests)) (λ y e. grind (arith, nat_tests))
-      (λ q far nor. grind (arith, nat_tests)) (λ q far. grind (arith, nat_tests))
+      (heads_after h (bucket (v.want s)) v.head) value (grind arith) (λ y e. grind arith)
+      (λ q far nor. grind arith) (λ q far. grind arith)
 
   -- the sought key has no value: none in ring has the key
   removed_puts : Puts order v removed_view (v.want s) None
@@ -265,11 +265,11 @@ module _ {K V : Type 0} {order rank : K → K → Ordering} {bucket : K → ℕ}
       let alike = k.claim_key s p (ap claim_at at) in
       record {
         keys = λ q. refl;
-        stayed = λ q far i. grind (arith, nat_tests);
+        stayed = λ q far i. grind arith;
         values = λ q far i. refl;
-        stays = λ q far i. grind (arith, nat_tests);
+        stays = λ q far i. grind arith;
         here = λ q e i.
-            grind (arith, nat_tests, only_claimed, cases_eq);
+            grind arith;
         there = λ w e. absurd cc;
       }
 
@@ -278,8 +278,8 @@ module _ {K V : Type 0} {order rank : K → K → Ordering} {bucket : K → ℕ}
   removed_counted =
       let b = removed_in in
       let p-in = k.within p (λ z. grind arith) in
-      count_more (λ q. is_in_ring (removed_view.state q)) (λ q. is_in_ring (v.state q)) p (grind (arith, nat_tests)) (ap is_in_ring b)
-      (λ q far. grind (arith, nat_tests)) n p-in
+      count_more (λ q. is_in_ring (removed_view.state q)) (λ q. is_in_ring (v.state q)) p (grind arith) (ap is_in_ring b)
+      (λ q far. grind arith) n p-in
 
   -- the plain table agrees
   removed_agrees : Agrees order (done_by order s operation.Remove v plain) n removed_view
@@ -310,10 +310,10 @@ module _ {K V : Type 0} {order rank : K → K → Ordering} {bucket : K → ℕ}
             unlink_last_keeps_sound kind.ranked bucket (rings_of v) (rings_of removed_view) p k.rings
             (record {
               keys = λ q. refl;
-              left = grind (arith, nat_tests);
-              others = λ q far. grind (arith, nat_tests);
-              rest = λ q far. grind (arith, nat_tests);
-              headless = λ a e. let f = removed_headed a e in f ∙ grind (arith, nat_tests);
+              left = grind arith;
+              others = λ q far. grind arith;
+              rest = λ q far. grind arith;
+              headless = λ a e. let f = removed_headed a e in f ∙ grind arith;
               heads = λ a far. head_stays v.head p (bucket (v.want s)) (heir p ahead) h follows a far;
             })
             (ap is_in_ring b) own)
@@ -322,11 +322,11 @@ module _ {K V : Type 0} {order rank : K → K → Ordering} {bucket : K → ℕ}
             unlink_keeps_sound kind.ranked bucket (rings_of v) (rings_of removed_view) c p k.rings
             (record {
               keys = λ q. refl;
-              left = grind (arith, nat_tests);
-              others = λ q far. grind (arith, nat_tests);
-              behind = grind (arith, nat_tests);
-              rest = λ q far nor. grind (arith, nat_tests);
-              headed = λ a e. let f = removed_headed a e in f ∙ grind (arith, nat_tests);
+              left = grind arith;
+              others = λ q far. grind arith;
+              behind = grind arith;
+              rest = λ q far nor. grind arith;
+              headed = λ a e. let f = removed_headed a e in f ∙ grind arith;
               heads = λ a far. head_stays v.head p (bucket (v.want s)) (heir p ahead) h follows a far;
             })
             c-in may.leads far)
