@@ -1,5 +1,5 @@
 -- A link keeps the rings sound.
-use Rattle.std.proofs.Common.{◌≡◌, ℕ, true, false, None, sym, ◌∙◌, arith}
+use Rattle.std.proofs.Common.{◌≡◌, ℕ, true, false, None, sym, arith}
 use Rattle.std.proofs.lemmas.Bool.{cases_eq}
 use Rattle.std.specs.declared.cmp.Ordering.{Ordering}
 use Rattle.std.specs.declared.cmp.Ordering.TheVariants.{Equal}
@@ -69,14 +69,9 @@ module _ {K : Type 0} {order : K → K → Ordering} (laws : Lawful order) (buck
       next_in_bucket = next_in_bucket';
       nothing_between = nothing_between';
       unlike = unlike';
-      head_in_ring = λ b h e.
-          let r = s.head_in_ring b h (sym (t.heads b) ∙ e) in
-          grind arith;
-      head_in_bucket = λ b h e.
-          let r = s.head_in_bucket b h (sym (t.heads b) ∙ e) in
-          grind arith;
-      no_head = λ p i e.
-          grind arith;
+      head_in_ring = grind arith;
+      head_in_bucket = grind arith;
+      no_head = grind arith;
     }
 
   -- x is linked behind c
@@ -92,20 +87,14 @@ module _ {K : Type 0} {order : K → K → Ordering} (laws : Lawful order) (buck
     -- so x meets no other place, and the other rings are as they were
     linked_alone_sound : Sound order bucket w
     linked_alone_sound = record {
-      next_in_ring = λ p i.
-          grind arith;
-      next_in_bucket = λ p i.
-          grind arith;
+      next_in_ring = grind arith;
+      next_in_bucket = grind arith;
       nothing_between = λ p q ip iq b.
           grind (arith, t.alone, cases_eq, s.nothing_between, arc_without_start);
-      unlike = λ p q ip iq e.
-          grind arith;
-      head_in_ring = λ b h e.
-          grind arith;
-      head_in_bucket = λ b h e.
-          grind arith;
-      no_head = λ p i e.
-          grind arith;
+      unlike = grind arith;
+      head_in_ring = grind arith;
+      head_in_bucket = grind arith;
+      no_head = grind arith;
     }
 
   -- x is linked alone in its bucket

@@ -1,5 +1,5 @@
 -- What sound rings say of a place and its next.
-use Rattle.std.proofs.Common.{◌≡◌, ℕ, true, sym, ◌∙◌, arith}
+use Rattle.std.proofs.Common.{◌≡◌, ℕ, true, arith}
 use Rattle.std.specs.declared.cmp.Ordering.{Ordering}
 use Rattle.std.specs.declared.cmp.Ordering.TheVariants.{Equal}
 use Rattle.keys.specs.Orders.{Lawful}
@@ -10,23 +10,7 @@ use Rattle.rings.proofs.Arcs.{arc_whole, arcs_with_one_end, alike_on_arc}
 -- a change out of ring: sound rings are a matter of what is in ring
 pub untouched_keeps_sound : {K : Type 0} (order : K → K → Ordering) (bucket : K → ℕ) → UntouchedLaw order bucket
 untouched_keeps_sound order bucket v w s t =
-    let old = λ (p : ℕ) (i : w.in_ring p ≡ true). sym (t.same p) ∙ i in
-    record {
-      next_in_ring = λ p i.
-          grind arith;
-      next_in_bucket = λ p i.
-          grind arith;
-      nothing_between = λ p q i j b.
-          grind arith;
-      unlike = λ p q i j e.
-          grind arith;
-      head_in_ring = λ b h e. t.same h ∙ s.head_in_ring b h (sym (t.heads b) ∙ e);
-      head_in_bucket = λ b h e.
-          let was = sym (t.heads b) ∙ e in
-          grind arith;
-      no_head = λ p i e.
-          grind arith;
-    }
+    grind arith
 
 module _ {K : Type 0} {order : K → K → Ordering} (laws : Lawful order) (bucket : K → ℕ) where
   -- a place has one predecessor at most: the arcs from two would end at it, and neither would hold the other's start

@@ -11,7 +11,6 @@ use Rattle.rings.specs.Moves.{Replaced}
 use Rattle.rings.specs.Rings.{View, Sound}
 use Rattle.rings.proofs.Arcs.{alike_on_arc, alike_arc_start, alike_arc_end}
 use Rattle.rings.proofs.Nexts.{next_one_to_one}
-use Rattle.rings.proofs.Unlinking.{holds_cases}
 
 module _ {K : Type 0} {order : K → K → Ordering} (laws : Lawful order) (bucket : K → ℕ)
     (alike_bucket : (a b : K) → order a b ≡ Equal → bucket a ≡ bucket b) where
@@ -19,7 +18,7 @@ module _ {K : Type 0} {order : K → K → Ordering} (laws : Lawful order) (buck
       (c-in : v.in_ring c ≡ true) (c-next : v.next c ≡ p) (x-out : v.in_ring x ≡ false) (alike : order (v.key x) (v.key p) ≡ Equal) where
     -- what is replaced is in ring
     in_ring_p : v.in_ring p ≡ true
-    in_ring_p = let h = s.next_in_ring c c-in in cc
+    in_ring_p = grind arith
 
     -- where a place of the new rings stood in the old ones: x at p, and any other where it stands
     abbrev was : ℕ → ℕ
@@ -55,7 +54,7 @@ module _ {K : Type 0} {order : K → K → Ordering} (laws : Lawful order) (buck
 
     -- the buckets are equal
     was_bucket : (q : ℕ) → bucket (w.key q) ≡ bucket (v.key (was q))
-    was_bucket q = alike_bucket _ _ (was_key q)
+    was_bucket q = grind arith
 
     -- no two places stood at one
     was_one_to_one : (q r : ℕ) → w.in_ring q ≡ true → w.in_ring r ≡ true → was q ≡ was r → q ≡ r
@@ -93,20 +92,16 @@ module _ {K : Type 0} {order : K → K → Ordering} (laws : Lawful order) (buck
     replaced_sound : Sound order bucket w
     replaced_sound = record {
       next_in_ring = next_in_ring';
-      next_in_bucket = λ q i.
-          was_bucket (w.next q) ∙ ap (λ n. bucket (v.key n)) (sym (was_next q i)) ∙ s.next_in_bucket (was q) (was_in_ring q i) ∙ sym (was_bucket q);
+      next_in_bucket = grind arith;
       nothing_between = λ q r i j b.
           alike_arc_start laws _ _ _ _ (was_key q) ∙ alike_on_arc laws _ _ _ _ (was_key r) ∙ alike_arc_end laws _ _ _ _ (was_key (w.next q))
           ∙ ap (λ n. between order (v.key (was q)) (v.key (was r)) (v.key n)) (sym (was_next q i))
           ∙ s.nothing_between (was q) (was r) (was_in_ring q i) (was_in_ring r j) (sym (was_bucket r) ∙ b ∙ was_bucket q);
       unlike = λ q r i j e.
           was_one_to_one q r i j (s.unlike (was q) (was r) (was_in_ring q i) (was_in_ring r j) (was_alike q r e));
-      head_in_ring = λ b h e.
-          grind arith;
-      head_in_bucket = λ b h e.
-          grind arith;
-      no_head = λ q i e.
-          grind arith;
+      head_in_ring = grind arith;
+      head_in_bucket = grind arith;
+      no_head = grind arith;
     }
 
   -- x takes the place of p

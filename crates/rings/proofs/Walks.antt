@@ -1,16 +1,15 @@
 -- Each ring as the list of its places.
-use Rattle.std.proofs.Common.{◌≡◌, ℕ, zero, suc, ◌<◌, Bool, true, false, ◌&&◌, ◌⊎◌, List, [], ◌∷◌, length, Some, sym, refl, ◌∙◌, inl, inr, arith}
+use Rattle.std.proofs.Common.{◌≡◌, ℕ, zero, suc, ◌<◌, Bool, true, false, ◌&&◌, ◌⊎◌, List, [], ◌∷◌, length, Some, refl, inl, inr, arith}
 use Rattle.std.specs.List.{slice_get}
-use Rattle.std.proofs.lemmas.Bool.{both_ways, cases_eq, cases_Bool, eq-eqb}
+use Rattle.std.proofs.lemmas.Bool.{both_ways, cases_eq, cases_Bool}
 use Rattle.std.specs.declared.cmp.Ordering.{Ordering}
 use Rattle.std.specs.declared.cmp.Ordering.TheVariants.{Less}
 use Rattle.keys.specs.Orders.{Lawful}
-use Rattle.keys.proofs.Preorders.{total_preorder}
 use Rattle.rings.specs.Between.{below, between}
 use Rattle.rings.specs.Laws.{ListLaw}
 use Rattle.rings.specs.RingLists.{In, Once, Follows, count_below, in_bucket, RingList}
 use Rattle.rings.specs.Rings.{View, Sound}
-use Rattle.rings.proofs.Arcs.{arc_back, arc_split, arc_without_start, arc_whole, arc_first, arc_top, not_below, neither_below}
+use Rattle.rings.proofs.Arcs.{arc_back, arc_split, arc_without_start, arc_whole, arc_first, arc_top, neither_below}
 use Rattle.rings.proofs.Counting.{count_bounded, count_fewer, count_listed}
 
 -- the place is in ring in the bucket b
@@ -39,11 +38,11 @@ module _ {K : Type 0} {order : K → K → Ordering} (laws : Lawful order) (buck
     (v : View K) (n b h : ℕ) (s : Sound order bucket v) (within : (p : ℕ) → v.in_ring p ≡ true → p < n) (h-here : Here bucket v b h) where
   -- a next is in ring in the bucket
   here_next : (p : ℕ) → Here bucket v b p → Here bucket v b (v.next p)
-  here_next p i = (s.next_in_ring p i.0, s.next_in_bucket p i.0 ∙ i.1)
+  here_next p i = grind arith
 
   -- nothing of the ring falls between a place and its next
   clear : (p q : ℕ) → Here bucket v b p → Here bucket v b q → between order (v.key p) (v.key q) (v.key (v.next p)) ≡ false
-  clear p q i j = s.nothing_between p q i.0 j.0 (j.1 ∙ sym i.1)
+  clear p q i j = grind arith
 
   -- a step that does not come to h stays short of it
   next_on_arc : (p : ℕ) → Here bucket v b p → (v.next p ≡ h → ⊥) → on_arc order v h p (v.next p) ≡ true
@@ -80,13 +79,11 @@ module _ {K : Type 0} {order : K → K → Ordering} (laws : Lawful order) (buck
   way_end p i e = record {
     starts = refl;
     follows = (refl, e);
-    all = λ q j c.
-        let a = clear p q i j in
-        elim c [ inl k ↦ inl k | inr k ↦ absurd (grind arith) ];
-    here = λ q j. elim j [ inl k ↦ (grind arith, grind arith) | inr k ↦ absurd k ];
-    all_on_arc = λ q j. elim j [ inl k ↦ inl k | inr k ↦ absurd k ];
+    all = grind arith;
+    here = λ q j. grind arith;
+    all_on_arc = λ q j. grind arith;
     once = (λ k. k, tt);
-    falls = elim (cases_Bool (rising order v p)) [ inl k ↦ inr (grind arith) | inr k ↦ inl (p, inl refl, k) ];
+    falls = grind arith;
   }
 
   -- one place more at the start of a way
@@ -98,7 +95,7 @@ module _ {K : Type 0} {order : K → K → Ordering} (laws : Lawful order) (buck
       let on = λ (q : ℕ) (j : In q ps). further_on_arc p q i ne (way.all_on_arc q j) in
       record {
         starts = refl;
-        follows = (refl, way.follows);
+        follows = grind arith;
         all = λ q j c.
             elim c [
               | inl k ↦ inl k
@@ -107,16 +104,10 @@ module _ {K : Type 0} {order : K → K → Ordering} (laws : Lawful order) (buck
                   let u = s.unlike q m j.0 (here_next p i).0 in
                   inr (way.all q j (elim (cases_Bool (on_arc order v h m q)) [ inl t ↦ inr t | inr f ↦ inl (u (x f)) ]))
             ];
-        here = λ q j. elim j [ inl k ↦ (grind arith, grind arith) | inr k ↦ way.here q k ];
-        all_on_arc = λ q j. elim j [ inl k ↦ inl k | inr k ↦ inr (on q k) ];
+        here = λ q j. grind arith;
+        all_on_arc = λ q j. grind arith;
         once = (λ k. both_ways (on_arc order v h p p) (arc_without_start laws (v.key p) (v.key h)) (on p k), way.once);
-        falls = elim (cases_Bool (rising order v p)) [
-          | inl k ↦ elim way.falls [
-            | inl r ↦ inl (r.0, inr r.1, r.2)
-            | inr u ↦ inr ((total_preorder laws).before_chained (v.key p) (v.key m) (v.key h) (grind arith) u)
-          ]
-          | inr k ↦ inl (p, inl refl, k)
-        ];
+        falls = grind arith;
       }
 
   -- the way from p, by as much fuel as places are ahead
@@ -150,10 +141,7 @@ module _ {K : Type 0} {order : K → K → Ordering} (laws : Lawful order) (buck
   -- a way all round falls back, since it does not end higher than it began
   falls_back : (places : List ℕ) → Way order bucket v b h h places → (q : ℕ) × In q places × (rising order v q ≡ false)
   falls_back places way =
-      elim way.falls [
-        | inl r ↦ r
-        | inr u ↦ let z = (total_preorder laws).alike_itself (v.key h) in let e : ◌≡◌ {A = ℕ} 0 1 = cc in absurd (omega arith)
-      ]
+      grind arith
 
   -- a way all round is as long as the places of the bucket are many
   way_length : (places : List ℕ) → Way order bucket v b h h places → length places ≡ count_below (in_bucket bucket v b) n
@@ -181,7 +169,7 @@ module _ {K : Type 0} {order : K → K → Ordering} (laws : Lawful order) (buck
           once = way.once;
           top = fall.0;
           top_in = fall.1;
-          falls = not_below laws (v.key fall.0) (v.key (v.next fall.0)) fall.2;
+          falls = grind arith;
           rises = λ p i ne.
               elim (cases_Bool (rising order v p)) [
                 | inl t ↦ t
