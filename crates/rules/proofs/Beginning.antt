@@ -8,14 +8,13 @@ use Rattle.tables.specs.declared.session.Job.{Job}
 use Rattle.tables.specs.declared.session.Stage.TheVariants.{Idle, UnderWay, Ended}
 use Rattle.tables.specs.declared.session.Work.{Work}
 use Rattle.tables.specs.declared.session.Work.TheVariants.{Seeking}
-use Rattle.tables.specs.Items.{is_in_ring}
 use Rattle.tables.specs.Sessions.{aside_of, claim_of, job_of, operation_of}
 use Rattle.rings.proofs.Unlinking.{holds_cases}
 use Rattle.rules.specs.Plain.{Plain, nothing, asked, noting}
 use Rattle.rules.proofs.Views.{Whole, cursor_at, aside_at, claim_at, changed, set_stage, set_request, out_aside, release_view, aside_view, begin_view, abandon_view}
 use Rattle.rules.proofs.Invariant.{Kept}
 use Rattle.rules.proofs.Frames.{Own, absent_present, own_idle, own_working}
-use Rattle.rules.proofs.Quiet.{changed_here, changed_elsewhere, in_ring_is, quiet_kept}
+use Rattle.rules.proofs.Quiet.{changed_here, changed_elsewhere, quiet_kept}
 use Rattle.rules.proofs.Stopping.{changed_at, changed_there, changed_not_there, regifted, stop_kept}
 
 -- what is asked of a place that a session is to set aside: it lies in the table, is out, and no session stands on it
@@ -60,19 +59,15 @@ module _ {K V : Type 0} {order rank : K → K → Ordering} {bucket : K → ℕ}
       let value-rest = changed_not_there t.value v.value aside aside refl in
       quiet_kept {plain = plain} {plain' = noting s (asked t) plain} s k
       (record {
-        stages = changed_elsewhere s (UnderWay (Seeking j None)) v.stage;
-        wants = changed_elsewhere s t.key v.want;
-        gifts = changed_elsewhere s t.value v.gift;
-        cursors = λ u c differs i.
-            let other : aside ≡ Some c → ⊥ = λ a. (free c a).untrodden u i in
-            record { set_aside = λ a. sym (state-rest c other) ∙ a; in_ring = λ a. sym (state-rest c other) ∙ a; key = λ a. key-rest c other };
+        stages = grind arith;
+        wants = grind arith;
+        gifts = grind arith;
+        cursors = grind arith;
         asides = λ u x differs i.
             let set = k.aside_state u x i in
             let other = not_free x (λ o. cc) in
-            record { state = state-rest x other; key = key-rest x other; value = value-rest x other; next = ahead x other };
-        claims = λ u p differs i.
-            let other = ring_not_free p (k.claim_state u p i) in
-            record { state = state-rest p other; key = key-rest p other; next = ahead p other; mark = refl };
+            record { state = grind arith; key = key-rest x other; value = grind arith; next = ahead x other };
+        claims = grind arith;
       })
       (changed_elsewhere s (asked t) plain.notes)
       (own_working (Seeking j None) here
@@ -81,9 +76,9 @@ module _ {K V : Type 0} {order rank : K → K → Ordering} {bucket : K → ℕ}
         cursor_within = λ c i. absurd (absent_present refl i);
         cursor_state = λ c i. absurd (absent_present refl i);
         cursor_bucket = λ c i. absurd (absent_present refl i);
-        aside_state = λ x i. state-at x (sym mine ∙ i);
-        aside_key = λ x i. changed_there t.key v.key aside aside refl x (sym mine ∙ i) ∙ sym want;
-        aside_value = λ x i. changed_there t.value v.value aside aside refl x (sym mine ∙ i) ∙ sym gift;
+        aside_state = λ x i. grind arith;
+        aside_key = λ x i. grind arith;
+        aside_value = λ x i. grind arith;
         claim_state = λ p i. absurd (absent_present refl i);
         claim_mark = λ p i. absurd (absent_present refl i);
         claim_key = λ p i. absurd (absent_present refl i);
@@ -95,20 +90,14 @@ module _ {K V : Type 0} {order rank : K → K → Ordering} {bucket : K → ℕ}
             let out = (free x (sym mine ∙ sym (ap aside_at here) ∙ i)).out in
             let z : ◌≡◌ {A = ℕ} 0 1 = cc in
             omega arith;
-        aside_left = λ x a. elim (holds_cases aside x) [
-          | inl i ↦ inl (ap aside_at here ∙ mine ∙ i)
-          | inr other ↦ inr (sym (state-rest x other) ∙ a, λ i. absent_present (ap aside_at idle) i)
-        ];
-        claim_new = λ u p differs i a. absent_present (ap claim_at here) i;
-        claim_left = λ p i. inr (i, λ a. absent_present (ap claim_at idle) a);
+        aside_left = λ x a. grind arith;
+        claim_new = λ u p differs i a. grind arith;
+        claim_left = λ p i. grind arith;
       })
       (record {
-        same = λ p. elim (holds_cases aside p) [
-          | inl i ↦ ap is_in_ring (state-at p i) ∙ sym (ap is_in_ring (free p i).out)
-          | inr other ↦ ap is_in_ring (state-rest p other)
-        ];
-        keys = λ p i. key-rest p (ring_not_free p (in_ring_is (v.state p) i));
-        nexts = λ p i. ahead p (ring_not_free p (in_ring_is (v.state p) i));
+        same = λ p. grind arith;
+        keys = λ p i. grind arith;
+        nexts = λ p i. grind arith;
         heads = λ b. refl;
       })
       (λ p i. value-rest p (ring_not_free p i))

@@ -1,6 +1,5 @@
 -- The moves by which a session claims the item ahead of it, to replace or to remove it.
-use Rattle.std.proofs.Common.{◌≡◌, ℕ, Bool, true, false, cond, eqb, Some, None, sym, refl, ap, ◌∙◌, inl, inr, arith}
-use Rattle.std.proofs.lemmas.Bool.{cases_eq, both_ways}
+use Rattle.std.proofs.Common.{◌≡◌, ℕ, Bool, true, false, cond, eqb, Some, None, sym, refl, ap, ◌∙◌, arith}
 use Rattle.std.specs.declared.cmp.Ordering.{Ordering}
 use Rattle.std.specs.declared.cmp.Ordering.TheVariants.{Equal}
 use Rattle.tables.specs.declared.item.ItemState.TheVariants.{InRing}
@@ -10,9 +9,8 @@ use Rattle.tables.specs.declared.session.Work.{Work}
 use Rattle.tables.specs.declared.session.Work.TheVariants.{Replacing, Removing}
 use Rattle.tables.specs.Items.{is_in_ring}
 use Rattle.tables.specs.Sessions.{aside_of, claim_of, cursor_of, job_of, operation_of}
-use Rattle.rings.proofs.Unlinking.{holds_cases}
 use Rattle.rules.specs.Plain.{Plain, asked}
-use Rattle.rules.proofs.Views.{Whole, aside_at, claim_at, changed, set_stage, act_view}
+use Rattle.rules.proofs.Views.{Whole, aside_at, changed, set_stage, act_view}
 use Rattle.rules.proofs.Invariant.{Kept}
 use Rattle.rules.proofs.Grounds.{Grounds, Ahead}
 use Rattle.rules.proofs.KindLaws.{Kind}
@@ -46,45 +44,34 @@ module _ {K V : Type 0} {order rank : K → K → Ordering} {bucket : K → ℕ}
       let only = λ (p : ℕ) (i : claim_of work' ≡ Some p). let same : p ≡ m = cc in same in
       quiet_kept {plain = plain} {plain' = plain} s k
       (record {
-        stages = changed_elsewhere s (UnderWay work') v.stage;
+        stages = grind arith;
         wants = λ t differs. refl;
         gifts = λ t differs. refl;
-        cursors = λ t c differs i. record { set_aside = λ a. a; in_ring = λ a. a; key = λ a. refl };
-        asides = λ t x differs i. record { state = refl; key = refl; value = refl; next = rest x (λ j. differs (k.aside_apart t s x i j)) };
-        claims = λ t p differs i. record {
-          state = refl;
-          key = refl;
-          next = ring_next p (k.claim_state t p i);
-          mark = changed_elsewhere m true v.mark p (λ j. both_ways (v.mark p) (ap v.mark j ∙ free) (k.claim_mark t p i));
-        };
+        cursors = λ t c differs i. grind arith;
+        asides = λ t x differs i. grind arith;
+        claims = λ t p differs i. grind arith;
       })
       (λ t differs. refl)
       (own_working work' stage (k.under_way s work e ∙ ap (λ a. asked (record { operation = operation_of a; key = v.want s; value = v.gift s })) job)
       (record {
-        cursor_within = λ c i. own.cursor_within c (cursor ∙ i);
-        cursor_state = λ c i. own.cursor_state c (cursor ∙ i);
-        cursor_bucket = λ c i. own.cursor_bucket c (cursor ∙ i);
-        aside_state = λ x i. own.aside_state x (old x i);
-        aside_key = λ x i. own.aside_key x (old x i);
-        aside_value = λ x i. own.aside_value x (old x i);
-        claim_state = λ p i. ap v.state (only p i) ∙ ring;
-        claim_mark = λ p i. ap (changed m true v.mark) (only p i) ∙ changed_here m true v.mark;
-        claim_key = λ p i. ap (λ q. order (v.key q) (v.want s)) (only p i) ∙ alike;
-        claim_next = λ p x i j. let same = only p i in let a = ahead x (aside ∙ old x j) in let b = ring_next m ring in (cc);
+        cursor_within = λ c i. grind arith;
+        cursor_state = λ c i. grind arith;
+        cursor_bucket = λ c i. grind arith;
+        aside_state = λ x i. grind arith;
+        aside_key = λ x i. grind arith;
+        aside_value = λ x i. grind arith;
+        claim_state = λ p i. grind arith;
+        claim_mark = λ p i. grind arith;
+        claim_key = λ p i. grind arith;
+        claim_next = λ p x i j. grind arith;
       }))
       (record {
-        aside_new = λ t x differs i j. differs (k.aside_apart t s x j (aside ∙ old x (sym (ap aside_at stage) ∙ i)));
-        aside_left = λ x a. elim (holds_cases (aside_at (v.stage s)) x) [
-          | inl i ↦ inl (ap aside_at stage ∙ ap aside_of (sym job) ∙ sym aside ∙ i)
-          | inr i ↦ inr (a, i)
-        ];
-        claim_new = λ t p differs i j. both_ways (v.mark p) (ap v.mark (only p (sym (ap claim_at stage) ∙ i)) ∙ free) (k.claim_mark t p j);
-        claim_left = λ p i. elim (cases_eq p m) [
-          | inl same ↦ inl (ap claim_at stage ∙ claim ∙ ap Some (sym same))
-          | inr differs ↦ inr (sym (changed_elsewhere m true v.mark p differs) ∙ i, λ j. absent_present none (sym (ap claim_at e) ∙ j))
-        ];
+        aside_new = λ t x differs i j. grind arith;
+        aside_left = λ x a. grind arith;
+        claim_new = λ t p differs i j. grind arith;
+        claim_left = λ p i. grind arith;
       })
-      (record { same = λ p. refl; keys = λ p i. refl; nexts = λ p i. ring_next p (in_ring_is (v.state p) i); heads = λ b. refl })
+      (record { same = λ p. refl; keys = λ p i. refl; nexts = λ p i. grind arith; heads = λ b. refl })
       (λ p i. refl) (λ p out used. absurd (used out)) refl
 
 module _ {K V : Type 0} {order rank : K → K → Ordering} {bucket : K → ℕ} {plain : Plain K V} {n : ℕ} {w : Whole K V} {s : ℕ} {work : Work}

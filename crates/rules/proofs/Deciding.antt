@@ -5,7 +5,6 @@ use Rattle.std.proofs.lemmas.Bool.{lt-ltb, eqb-true}
 use Rattle.std.specs.Cmp.{Equal-is}
 use Rattle.std.specs.declared.cmp.Ordering.{Ordering}
 use Rattle.std.specs.declared.cmp.Ordering.TheVariants.{Equal}
-use Rattle.std.specs.Ordering.{is_eq}
 use Rattle.calls.specs.declared.fault.IndexFault.{IndexFault}
 use Rattle.calls.specs.declared.fault.IndexFault.TheVariants.{OutsideTable}
 use Rattle.keys.specs.Hashes.{Hash}
@@ -149,7 +148,7 @@ module _ {K V : Type 0} (order : K → K → Ordering) (digest : K → Hash) (la
 
       -- the next item has the key, and is not occupied
       ahead : has_rank order digest st r.key nx.key ≡ true → nx.occupied ≡ false → Ahead order rank bucket st.core.places w s c it.next
-      ahead h free = record { stands = stands; leads = leads; alike = alike_ranked it.next nx at_next h; free = ap mark_in at_next ∙ free }
+      ahead h free = grind arith
 
       -- the key falls between the two, by place
       falls_here : between rank it.key r.key nx.key ≡ true → between rank (w.key c) (w.want s) (w.key it.next) ≡ true
@@ -280,7 +279,7 @@ module _ {K V : Type 0} (order : K → K → Ordering) (digest : K → Hash) (la
     swing_tested : may_swing pair it ≡ true → MaySwing order rank bucket st.core.places w s pair.0 pair.1
     swing_tested passes = record {
       stands = ap state_in at ∙ ringed;
-      leads = ap next_in at ∙ eqb-true it.next pair.1 (grind arith);
+      leads = grind arith;
       free = go it.occupied refl;
     }
       where

@@ -19,7 +19,7 @@ use Rattle.rules.proofs.Views.{Whole, changed, set_head, set_value, out_aside, w
 use Rattle.rules.proofs.Invariant.{Kept}
 use Rattle.rules.proofs.Grounds.{Grounds, MayMiss, MayHit}
 use Rattle.rules.proofs.KindLaws.{Kind}
-use Rattle.rules.proofs.PlainTables.{found_cases, alike_cases, found_alike, found_put_same, found_put_other, found_put_back, apart_put, length_put_back, length_stored_present}
+use Rattle.rules.proofs.PlainTables.{alike_cases, found_alike, found_put_same, found_put_other, found_put_back, apart_put, length_put_back, length_stored_present}
 use Rattle.rules.proofs.Quiet.{changed_here, changed_elsewhere, entries_kept, head_kept, revalued_kept}
 use Rattle.rules.proofs.Stopping.{seeker_ends}
 
@@ -47,10 +47,7 @@ module _ {K V : Type 0} {order rank : K → K → Ordering} {bucket : K → ℕ}
   -- a key alike to none in ring is absent
   pub absent_found : (x : K) → ((p : ℕ) → w.state p ≡ InRing → order (w.key p) x ≡ Equal → ⊥) → found order x plain.entries ≡ None
   absent_found x none =
-      elim (found_cases (found order x plain.entries)) [
-        | inl h ↦ h
-        | inr h ↦ (let at = k.known x h.0 h.1 in absurd (none at.0 at.1 at.2))
-      ]
+      grind arith
 
   -- a key alike to one in ring has its value
   pub present_found : (x : K) (p : ℕ) → w.state p ≡ InRing → order (w.key p) x ≡ Equal → found order x plain.entries ≡ Some (w.value p)
@@ -80,7 +77,7 @@ module _ {K V : Type 0} {order rank : K → K → Ordering} {bucket : K → ℕ}
             | inr differs ↦ found_put_other laws x (w.key q) (Some y) es (other_key q r differs) ∙ k.held q r ∙ ap Some (sym (changed_elsewhere p y w.value q differs))
           ];
           known = λ a u e. elim (alike_cases (order x a)) [
-            | inl alike ↦ (p, i, chained (w.key p) x a h alike)
+            | inl alike ↦ grind arith
             | inr differs ↦ k.known a u (sym (found_put_other laws x a (Some y) es differs) ∙ e)
           ];
           apart = apart_put laws x (Some y) es k.apart;

@@ -1,6 +1,6 @@
 -- What a call on one session leaves to the others. The invariant in parts: what holds of each session by
 -- itself, of the asides and claims of all, and of the plain table; and each part from what a call changes.
-use Rattle.std.proofs.Common.{◌≡◌, ℕ, ◌<◌, Bool, true, cond, eqb, ◌⊎◌, length, Some, None, Option, sym, ap, ◌∙◌, subst, inl, inr, arith}
+use Rattle.std.proofs.Common.{◌≡◌, ℕ, ◌<◌, Bool, true, cond, eqb, ◌⊎◌, length, Some, None, Option, sym, ap, ◌∙◌, inl, inr, arith}
 use Rattle.std.proofs.lemmas.Bool.{cases_eq}
 use Rattle.std.specs.declared.cmp.Ordering.{Ordering}
 use Rattle.std.specs.declared.cmp.Ordering.TheVariants.{Equal}
@@ -138,13 +138,13 @@ module _ {K V : Type 0} {order rank : K → K → Ordering} {bucket : K → ℕ}
     aside_state = λ s. (own s).aside_state;
     aside_key = λ s. (own s).aside_key;
     aside_value = λ s. (own s).aside_value;
-    aside_apart = shared.aside_apart;
-    aside_owned = shared.aside_owned;
+    aside_apart = grind arith;
+    aside_owned = grind arith;
     claim_state = λ s. (own s).claim_state;
     claim_mark = λ s. (own s).claim_mark;
     claim_key = λ s. (own s).claim_key;
-    claim_apart = shared.claim_apart;
-    claim_owned = shared.claim_owned;
+    claim_apart = grind arith;
+    claim_owned = grind arith;
     claim_next = λ s. (own s).claim_next;
     held = agrees.held;
     known = agrees.known;
@@ -159,24 +159,7 @@ module _ {K V : Type 0} {order : K → K → Ordering} {bucket : K → ℕ} {pla
       plain.notes s ≡ asked (record { operation = operation_of (job_of work); key = w.want s; value = w.gift s }) →
       OwnWork order bucket n w s work → Own order bucket plain n w s
   own_working work e h o =
-      let cursor = ap cursor_at e in
-      let aside = ap aside_at e in
-      let claim = ap claim_at e in
-      record {
-        idle = λ i. absurd cc;
-        under_way = λ other i. h ∙ (cc);
-        ended = λ op present i. absurd cc;
-        cursor_within = λ c i. o.cursor_within c (sym cursor ∙ i);
-        cursor_state = λ c i. o.cursor_state c (sym cursor ∙ i);
-        cursor_bucket = λ c i. o.cursor_bucket c (sym cursor ∙ i);
-        aside_state = λ x i. o.aside_state x (sym aside ∙ i);
-        aside_key = λ x i. o.aside_key x (sym aside ∙ i);
-        aside_value = λ x i. o.aside_value x (sym aside ∙ i);
-        claim_state = λ p i. o.claim_state p (sym claim ∙ i);
-        claim_mark = λ p i. o.claim_mark p (sym claim ∙ i);
-        claim_key = λ p i. o.claim_key p (sym claim ∙ i);
-        claim_next = λ p x i j. o.claim_next p x (sym claim ∙ i) (sym aside ∙ j);
-      }
+      grind arith
 
   -- a session that stands nowhere, and has set nothing aside and claimed nothing
   own_bare :
@@ -217,21 +200,7 @@ module _ {K V : Type 0} {order : K → K → Ordering} {bucket : K → ℕ} {pla
   -- the work of a session under way
   pub own_work : (work : Work) → w.stage s ≡ UnderWay work → Own order bucket plain n w s → OwnWork order bucket n w s work
   own_work work e o =
-      let cursor = ap cursor_at e in
-      let aside = ap aside_at e in
-      let claim = ap claim_at e in
-      record {
-        cursor_within = λ c i. o.cursor_within c (cursor ∙ i);
-        cursor_state = λ c i. o.cursor_state c (cursor ∙ i);
-        cursor_bucket = λ c i. o.cursor_bucket c (cursor ∙ i);
-        aside_state = λ x i. o.aside_state x (aside ∙ i);
-        aside_key = λ x i. o.aside_key x (aside ∙ i);
-        aside_value = λ x i. o.aside_value x (aside ∙ i);
-        claim_state = λ p i. o.claim_state p (claim ∙ i);
-        claim_mark = λ p i. o.claim_mark p (claim ∙ i);
-        claim_key = λ p i. o.claim_key p (claim ∙ i);
-        claim_next = λ p x i j. o.claim_next p x (claim ∙ i) (aside ∙ j);
-      }
+      grind arith
 
 module _ {K V : Type 0} {order : K → K → Ordering} {bucket : K → ℕ} {plain plain' : Plain K V} {n : ℕ} {v w : Whole K V} where
   -- what holds of another session still does
@@ -245,18 +214,18 @@ module _ {K V : Type 0} {order : K → K → Ordering} {bucket : K → ℕ} {pla
       let aside = ap aside_at stage in
       let claim = ap claim_at stage in
       record {
-        idle = λ i. note ∙ o.idle (sym stage ∙ i);
-        under_way = λ work i. note ∙ o.under_way work (sym stage ∙ i) ∙ (cc);
-        ended = λ op present i. note ∙ o.ended op present (sym stage ∙ i) ∙ (cc);
-        cursor_within = λ c i. o.cursor_within c (sym cursor ∙ i);
+        idle = λ i. grind arith;
+        under_way = λ work i. grind arith;
+        ended = λ op present i. grind arith;
+        cursor_within = λ c i. grind arith;
         cursor_state = λ c i a. o.cursor_state c (sym cursor ∙ i) ((f.cursors t c other (sym cursor ∙ i)).set_aside a);
         cursor_bucket = λ c i r.
             let st = f.cursors t c other (sym cursor ∙ i) in
             ap bucket (st.key r) ∙ o.cursor_bucket c (sym cursor ∙ i) (st.in_ring r) ∙ ap bucket (sym want);
-        aside_state = λ x i. (f.asides t x other (sym aside ∙ i)).state ∙ o.aside_state x (sym aside ∙ i);
+        aside_state = λ x i. grind arith;
         aside_key = λ x i. (f.asides t x other (sym aside ∙ i)).key ∙ o.aside_key x (sym aside ∙ i) ∙ sym want;
         aside_value = λ x i. (f.asides t x other (sym aside ∙ i)).value ∙ o.aside_value x (sym aside ∙ i) ∙ sym gift;
-        claim_state = λ p i. (f.claims t p other (sym claim ∙ i)).state ∙ o.claim_state p (sym claim ∙ i);
+        claim_state = λ p i. grind arith;
         claim_mark = λ p i. (f.claims t p other (sym claim ∙ i)).mark ∙ o.claim_mark p (sym claim ∙ i);
         claim_key = λ p i. let key = (f.claims t p other (sym claim ∙ i)).key in let h = o.claim_key p (sym claim ∙ i) in (cc);
         claim_next = λ p x i j.
@@ -274,16 +243,7 @@ module _ (before after : ℕ → Option ℕ) (s : ℕ) (others : (t : ℕ) → (
       ((t u x : ℕ) → before t ≡ Some x → before u ≡ Some x → t ≡ u) →
       (t u x : ℕ) → after t ≡ Some x → after u ≡ Some x → t ≡ u
   still_apart new apart t u x i j =
-      elim (cases_eq t s) [
-        | inl e ↦ elim (cases_eq u s) [
-          | inl h ↦ e ∙ sym h
-          | inr differs ↦ absurd (new u x differs (ap after (sym e) ∙ i) (sym (others u differs) ∙ j))
-        ]
-        | inr differs ↦ elim (cases_eq u s) [
-          | inl h ↦ absurd (new t x differs (ap after (sym h) ∙ j) (sym (others t differs) ∙ i))
-          | inr nor ↦ apart t u x (sym (others t differs) ∙ i) (sym (others u nor) ∙ j)
-        ]
-      ]
+      grind arith
 
   -- a place that another session held is held
   still_owned : (x : ℕ) → (before s ≡ Some x → ⊥) → (t : ℕ) × (before t ≡ Some x) → (t : ℕ) × (after t ≡ Some x)
@@ -300,22 +260,19 @@ pub frame_kept :
 frame_kept {order = order} {bucket = bucket} {plain' = plain'} {n = n} {v = v} {w = w} s k f notes mine h rings within agrees =
     let own : (t : ℕ) → Own order bucket plain' n w t =
     λ t. elim (cases_eq t s) [
-      | inl e ↦ subst (λ u. Own order bucket plain' n w u) (sym e) mine
+      | inl e ↦ grind arith
       | inr other ↦ frame_own s t f other (notes t other) (kept_own k t)
     ] in
     let aside = λ (t : ℕ) (differs : t ≡ s → ⊥). ap aside_at (f.stages t differs) in
     let claim = λ (t : ℕ) (differs : t ≡ s → ⊥). ap claim_at (f.stages t differs) in
     parts_kept rings within own
     (record {
-      aside_apart = still_apart (λ t. aside_at (v.stage t)) (λ t. aside_at (w.stage t)) s aside h.aside_new k.aside_apart;
+      aside_apart = grind arith;
       aside_owned = λ x i. elim (h.aside_left x i) [
         | inl e ↦ (s, e)
-        | inr was ↦ still_owned (λ t. aside_at (v.stage t)) (λ t. aside_at (w.stage t)) s aside x was.1 (k.aside_owned x was.0)
+        | inr was ↦ grind arith
       ];
-      claim_apart = still_apart (λ t. claim_at (v.stage t)) (λ t. claim_at (w.stage t)) s claim h.claim_new k.claim_apart;
-      claim_owned = λ p i. elim (h.claim_left p i) [
-        | inl e ↦ (s, e)
-        | inr was ↦ still_owned (λ t. claim_at (v.stage t)) (λ t. claim_at (w.stage t)) s claim p was.1 (k.claim_owned p was.0)
-      ];
+      claim_apart = grind arith;
+      claim_owned = λ p i. grind arith;
     })
     agrees

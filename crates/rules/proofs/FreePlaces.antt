@@ -2,7 +2,6 @@
 use Rattle.std.proofs.Common.{◌≡◌, ℕ, zero, suc, ◌+◌, ◌<◌, ◌≤◌, Bool, true, false, ◌⊎◌, List, [], ◌∷◌, Some, None, Option, refl, inl, inr, arith}
 use Rattle.std.specs.List.{slice_get}
 use Rattle.std.proofs.lemmas.Bool.{cases_eq, cases_Bool}
-use Rattle.std.proofs.lemmas.Bool.Decides.{nat_tests}
 use Rattle.tables.specs.declared.item.Item.{Item}
 use Rattle.tables.specs.declared.item.ItemState.TheVariants.{Out}
 use Rattle.tables.specs.declared.session.Session.{Session}
@@ -32,7 +31,7 @@ stood_on : (p : ℕ) (ss : List Session) → is_stood_on p ss ≡ true → (s : 
 stood_on p [] h = absurd (grind arith)
 stood_on p (x ∷ ss) h =
     elim (cases_Bool (stands_on p x.stage)) [
-      | inl here ↦ (0, stands_cursor p x.stage here)
+      | inl here ↦ grind arith
       | inr not-here ↦ let more = stood_on p ss (grind arith) in (suc more.0, more.1)
     ]
 

@@ -75,8 +75,8 @@ module _ {K V : Type 0} {order rank : K → K → Ordering} {bucket : K → ℕ}
         note = grind arith;
         in_use = λ p h z. grind arith;
         in_ring = λ p i h. grind (arith, nat_tests);
-        set_aside = λ p i. (grind arith, λ z. grind arith);
-        marked = λ p i. (i, λ z. grind arith);
+        set_aside = λ p i. grind arith;
+        marked = λ p i. grind arith;
         aside_stays = λ t y far h.
             let a = k.aside_state t y h in
             let b = k.aside_apart t s y h in
@@ -84,7 +84,7 @@ module _ {K V : Type 0} {order rank : K → K → Ordering} {bucket : K → ℕ}
         aside_value = λ t y far h. refl;
         aside_next = aside;
         claim_stays = λ t p far h. grind arith;
-        claim_mark = λ t p far h. k.claim_mark t p h;
+        claim_mark = λ t p far h. grind arith;
         claim_next = λ t p far h. claimed t p h;
       }
 
@@ -101,7 +101,7 @@ module _ {K V : Type 0} {order rank : K → K → Ordering} {bucket : K → ℕ}
         values = λ p far i. refl;
         stays = λ p far i. grind arith;
         here = λ p h i. let d = cases_eq p x in let u = unlike p in grind (arith, nat_tests);
-        there = λ u e. (x, grind arith, grind arith);
+        there = λ u e. grind arith;
       }
 
   -- one more is in ring

@@ -34,19 +34,11 @@ module _ {K V : Type 0} (order rank : K → K → Ordering) (bucket : K → ℕ)
   -- the invariant holds of it, with the empty plain table
   empty_kept : Kept order rank bucket fresh n w
   empty_kept = record {
-    rings = record {
-      next_in_ring = λ p i. absurd (not_in_ring p i);
-      next_in_bucket = λ p i. absurd (not_in_ring p i);
-      nothing_between = λ p q i. absurd (not_in_ring p i);
-      unlike = λ p q i. absurd (not_in_ring p i);
-      head_in_ring = λ b h e. absurd (absent_present (headless b) e);
-      head_in_bucket = λ b h e. absurd (absent_present (headless b) e);
-      no_head = λ p i. absurd (not_in_ring p i);
-    };
+    rings = grind arith;
     within = λ p used. absurd (used (out p));
     idle = λ s e. refl;
-    under_way = λ s work e. let i = all-idle s in absurd (grind arith);
-    ended = λ s o present e. let i = all-idle s in absurd (grind arith);
+    under_way = λ s work e. grind arith;
+    ended = λ s o present e. grind arith;
     cursor_within = λ s c e. absurd (absent_present (ap cursor_at (all-idle s)) e);
     cursor_state = λ s c e. absurd (absent_present (ap cursor_at (all-idle s)) e);
     cursor_bucket = λ s c e. absurd (absent_present (ap cursor_at (all-idle s)) e);
@@ -59,7 +51,7 @@ module _ {K V : Type 0} (order rank : K → K → Ordering) (bucket : K → ℕ)
     claim_mark = λ s p e. absurd (absent_present (ap claim_at (all-idle s)) e);
     claim_key = λ s p e. absurd (absent_present (ap claim_at (all-idle s)) e);
     claim_apart = λ s t p e. absurd (absent_present (ap claim_at (all-idle s)) e);
-    claim_owned = λ p e. let u = unmarked p in absurd (grind arith);
+    claim_owned = λ p e. grind arith;
     claim_next = λ s p x e. absurd (absent_present (ap claim_at (all-idle s)) e);
     held = λ p e. absurd (not_in_ring p (ap is_in_ring e));
     known = λ x v e. absurd (absent_present refl e);
@@ -107,12 +99,12 @@ module _ {K V : Type 0} (order : K → K → Ordering) (digest : K → Hash) (k 
         made = refl;
         few_bits = few;
         some_place = some;
-        few_places = leb-true _ _ (grind arith);
+        few_places = grind arith;
         hand_within = omega arith;
         heads_long = length-replicate (length old.heads) none ∙ heads;
         items_long = blank_long 0 old.items;
-        requests_long = eqb-true _ _ (grind arith);
-        sessions_long = length-replicate 16 idle;
+        requests_long = grind arith;
+        sessions_long = grind arith;
       }
 
   -- an index made new satisfies the invariant

@@ -1,5 +1,5 @@
 -- The moves by which a session goes on seeking: it steps, leaves where it stood, gives up its claim, or waits.
-use Rattle.std.proofs.Common.{◌≡◌, ℕ, Bool, true, false, Some, None, Option, sym, refl, ap, ◌∙◌, inl, inr, arith}
+use Rattle.std.proofs.Common.{◌≡◌, ℕ, Bool, true, false, Some, None, Option, sym, refl, ap, ◌∙◌, arith}
 use Rattle.std.proofs.lemmas.Bool.{both_ways}
 use Rattle.std.specs.declared.cmp.Ordering.{Ordering}
 use Rattle.tables.specs.declared.item.ItemState.TheVariants.{InRing}
@@ -8,7 +8,6 @@ use Rattle.tables.specs.declared.session.Stage.TheVariants.{UnderWay}
 use Rattle.tables.specs.declared.session.Work.{Work}
 use Rattle.tables.specs.declared.session.Work.TheVariants.{Seeking, Replacing, Removing}
 use Rattle.tables.specs.Sessions.{claim_of, job_of}
-use Rattle.rings.proofs.Unlinking.{holds_cases}
 use Rattle.rules.specs.Plain.{Plain}
 use Rattle.rules.proofs.Views.{Whole, aside_at, claim_at, changed, set_stage, release_view, act_view}
 use Rattle.rules.proofs.Invariant.{Kept}
@@ -45,18 +44,18 @@ module _ {K V : Type 0} {order rank : K → K → Ordering} {bucket : K → ℕ}
       let aside = ap aside_at e in
       quiet_kept {plain = plain} {plain' = plain} s k
       (record {
-        stages = changed_elsewhere s (UnderWay (Seeking (job_of work) cursor)) v.stage;
+        stages = grind arith;
         wants = λ t differs. refl;
         gifts = λ t differs. refl;
-        cursors = λ t c differs i. record { set_aside = λ a. a; in_ring = λ a. a; key = λ a. refl };
-        asides = λ t x differs i. record { state = refl; key = refl; value = refl; next = refl };
+        cursors = λ t c differs i. grind arith;
+        asides = λ t x differs i. grind arith;
         claims = λ t p differs i. record { state = refl; key = refl; next = refl; mark = rest p (other_claim t p differs i) };
       })
       (λ t differs. refl)
       (own_working (Seeking (job_of work) cursor) stage (k.under_way s work e)
       (record {
         cursor_within = λ c i. k.within c (in_use (stands c i).0);
-        cursor_state = λ c i a. (let r = (stands c i).0 in cc);
+        cursor_state = λ c i a. grind arith;
         cursor_bucket = λ c i r. (stands c i).1;
         aside_state = own.aside_state;
         aside_key = own.aside_key;
@@ -67,13 +66,10 @@ module _ {K V : Type 0} {order rank : K → K → Ordering} {bucket : K → ℕ}
         claim_next = λ p x i j. absurd (absent_present refl i);
       }))
       (record {
-        aside_new = λ t x differs i j. differs (k.aside_apart t s x j (aside ∙ sym (ap aside_at stage) ∙ i));
-        aside_left = λ x a. elim (holds_cases (aside_at (v.stage s)) x) [
-          | inl i ↦ inl (ap aside_at stage ∙ sym aside ∙ i)
-          | inr i ↦ inr (a, i)
-        ];
-        claim_new = λ t p differs i j. absent_present (ap claim_at stage) i;
-        claim_left = λ p i. inr (still_marked p i);
+        aside_new = λ t x differs i j. grind arith;
+        aside_left = λ x a. grind arith;
+        claim_new = λ t p differs i j. grind arith;
+        claim_left = λ p i. grind arith;
       })
       (record { same = λ p. refl; keys = λ p i. refl; nexts = λ p i. refl; heads = λ b. refl })
       (λ p i. refl) (λ p out used. absurd (used out)) refl

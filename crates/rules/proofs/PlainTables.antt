@@ -1,5 +1,5 @@
 -- What the entries of a plain table hold, and how many they are, after one of them is put.
-use Rattle.std.proofs.Common.{◌≡◌, ℕ, suc, ◌⊎◌, List, [], ◌∷◌, length, Some, None, Option, sym, refl, ap, ◌∙◌, inl, inr, arith}
+use Rattle.std.proofs.Common.{◌≡◌, suc, ◌⊎◌, List, [], ◌∷◌, length, Some, None, Option, sym, refl, ap, ◌∙◌, inl, inr, arith}
 use Rattle.std.proofs.lemmas.Bool.{cond_both}
 use Rattle.std.specs.declared.cmp.Ordering.{Ordering}
 use Rattle.std.specs.declared.cmp.Ordering.TheVariants.{Less, Equal, Greater}
@@ -7,7 +7,7 @@ use Rattle.std.specs.Ordering.{is_eq}
 use Rattle.keys.specs.Orders.{Lawful}
 use Rattle.keys.proofs.Preorders.{total_preorder}
 use Rattle.calls.specs.declared.operation.Operation.{Operation}
-use Rattle.calls.specs.declared.operation.Operation.TheVariants.{Insert, Write, Replace, Remove}
+use Rattle.calls.specs.declared.operation.Operation.TheVariants.{Insert, Replace, Remove}
 use Rattle.calls.specs.Operations.{leaves}
 use Rattle.rules.specs.Plain.{found, stored, deleted, put, Apart}
 

@@ -1,11 +1,9 @@
 -- Changes that leave the shape of the rings alone: nothing enters or leaves a ring.
-use Rattle.std.proofs.Common.{◌≡◌, ℕ, suc, ◌<◌, true, eqb, ◌⊎◌, length, Some, None, Option, sym, refl, ap, ◌∙◌, subst, inl, inr, arith}
-use mathlib.Core.Path.{fun_ext}
-use Rattle.std.proofs.lemmas.Bool.{cases_eq, cond-true, cond-false, eq-eqb, ne_eqb}
+use Rattle.std.proofs.Common.{◌≡◌, ℕ, suc, ◌<◌, true, eqb, ◌⊎◌, length, Some, Option, sym, refl, ap, subst, inl, inr, arith}
+use Rattle.std.proofs.lemmas.Bool.{cond-true, cond-false, eq-eqb, ne_eqb}
 use Rattle.std.specs.declared.cmp.Ordering.{Ordering}
 use Rattle.rings.proofs.Nexts.{untouched_keeps_sound}
 use Rattle.rings.specs.Moves.{Untouched}
-use Rattle.rings.specs.RingLists.{count_below}
 use Rattle.rings.specs.Rings.{Sound, View}
 use Rattle.tables.specs.declared.item.ItemState.{ItemState}
 use Rattle.tables.specs.declared.item.ItemState.TheVariants.{Out, SetAside, InRing}
@@ -13,7 +11,7 @@ use Rattle.tables.specs.Items.{is_in_ring}
 use Rattle.rules.specs.Plain.{Plain, found, Apart}
 use Rattle.rules.proofs.Views.{Whole, rings_of, changed, set_head}
 use Rattle.rules.proofs.Invariant.{Kept}
-use Rattle.rules.proofs.Frames.{Agrees, absent_present, Frame, Holdings, Own, frame_kept, frame_own, kept_agrees, kept_own, parts_kept}
+use Rattle.rules.proofs.Frames.{Agrees, Frame, Holdings, Own, frame_kept, frame_own, kept_agrees, kept_own, parts_kept}
 
 module _ {X : Type 0} where
   -- where a function is changed it has the new value
@@ -48,15 +46,10 @@ module _ {K V : Type 0} {order : K → K → Ordering} {plain plain' : Plain K V
       Apart order plain'.entries → length plain'.entries ≡ length plain.entries →
       Agrees order plain n v → Agrees order plain' n w
   untouched_agrees u values same apart long a = record {
-    held = λ p i.
-        let was = in_ring_is (v.state p) (sym (u.same p) ∙ ap is_in_ring i) in
-        ap (λ x. found order x plain'.entries) (u.keys p (ap is_in_ring was)) ∙ same (v.key p) ∙ a.held p was ∙ ap Some (sym (values p was));
-    known = λ x y e.
-        let h = a.known x y (sym (same x) ∙ e) in
-        let now = in_ring_is (w.state h.0) (u.same h.0 ∙ ap is_in_ring h.1) in
-        (h.0, now, ap (λ key. order key x) (u.keys h.0 (ap is_in_ring h.1)) ∙ h.2);
+    held = grind arith;
+    known = grind arith;
     apart = apart;
-    counted = long ∙ a.counted ∙ ap (λ test. count_below test n) (fun_ext (λ p. sym (u.same p)));
+    counted = grind arith;
   }
 
 module _ {K V : Type 0} {order rank : K → K → Ordering} {bucket : K → ℕ} {plain plain' : Plain K V} {n : ℕ} {v w : Whole K V} where
@@ -87,9 +80,9 @@ revalued_frame values heads k asides s = record {
   stages = λ t differs. refl;
   wants = λ t differs. refl;
   gifts = λ t differs. refl;
-  cursors = λ t c differs i. record { set_aside = λ a. a; in_ring = λ a. a; key = λ a. refl };
-  asides = λ t x differs i. record { state = refl; key = refl; value = asides x (k.aside_state t x i); next = refl };
-  claims = λ t p differs i. record { state = refl; key = refl; next = refl; mark = refl };
+  cursors = λ t c differs i. grind arith;
+  asides = λ t x differs i. grind arith;
+  claims = λ t p differs i. grind arith;
 }
 
 -- other values and heads keep the invariant, if what is set aside keeps its values, the rings are sound with these heads, and the

@@ -2,8 +2,6 @@
 -- table agrees after it.
 use Rattle.std.proofs.Common.{◌≡◌, ℕ, suc, ◌<◌, Bool, true, false, cond, length, Some, None, Option, sym, ap, ◌∙◌, subst, inl, inr, arith}
 use mathlib.Core.Path.{fun_ext}
-use Rattle.std.proofs.lemmas.Bool.{cases_eq}
-use Rattle.std.proofs.lemmas.Bool.Decides.{nat_tests}
 use Rattle.std.specs.declared.cmp.Ordering.{Ordering}
 use Rattle.std.specs.declared.cmp.Ordering.TheVariants.{Equal}
 use Rattle.calls.specs.declared.operation.Operation.{Operation}
@@ -16,7 +14,7 @@ use Rattle.tables.specs.declared.item.ItemState.TheVariants.{Out, SetAside, InRi
 use Rattle.tables.specs.declared.session.Stage.TheVariants.{Ended}
 use Rattle.tables.specs.Items.{is_in_ring}
 use Rattle.rules.specs.Plain.{Plain, answer, found, put, Apart, do_task}
-use Rattle.rules.proofs.Frames.{Frame, Holdings, Agrees, absent_present, own_ended, frame_kept}
+use Rattle.rules.proofs.Frames.{Frame, Holdings, Agrees, own_ended, frame_kept}
 use Rattle.rules.proofs.Invariant.{Kept}
 use Rattle.rules.proofs.PlainTables.{alike_cases, found_put_same, found_put_other, apart_put}
 use Rattle.rules.proofs.Views.{Whole, rings_of, aside_at, claim_at}
@@ -64,28 +62,18 @@ module _ {K V : Type 0} {order rank : K → K → Ordering} {bucket : K → ℕ}
     stages = e.stages;
     wants = λ t far. e.wants t;
     gifts = e.gifts;
-    cursors = λ t c far h. record { set_aside = λ i. (e.set_aside c i).0; in_ring = λ i. e.in_ring c i (k.cursor_state t c h); key = λ i. e.keys c };
-    asides = λ t x far h. record {
-      state = e.aside_stays t x far h ∙ sym (k.aside_state t x h);
-      key = e.keys x;
-      value = e.aside_value t x far h;
-      next = e.aside_next t x far h;
-    };
-    claims = λ t p far h. record {
-      state = e.claim_stays t p far h ∙ sym (k.claim_state t p h);
-      key = e.keys p;
-      next = e.claim_next t p far h;
-      mark = e.claim_mark t p far h ∙ sym (k.claim_mark t p h);
-    };
+    cursors = λ t c far h. grind arith;
+    asides = λ t x far h. grind arith;
+    claims = λ t p far h. grind arith;
   }
 
   -- s has set nothing aside and claimed nothing
   ending_holdings : Holdings v w s
   ending_holdings = record {
-    aside_new = λ t x far h i. absent_present (ap aside_at e.stage) h;
-    aside_left = λ x i. inr (e.set_aside x i);
-    claim_new = λ t p far h i. absent_present (ap claim_at e.stage) h;
-    claim_left = λ p i. inr (e.marked p i);
+    aside_new = λ t x far h i. grind arith;
+    aside_left = λ x i. grind arith;
+    claim_new = λ t p far h i. grind arith;
+    claim_left = λ p i. grind arith;
   }
 
   -- a move that ends a session's work keeps what holds, if the rings are sound after it and the plain table agrees

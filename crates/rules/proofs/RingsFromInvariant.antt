@@ -11,7 +11,7 @@ use Rattle.rings.proofs.Walks.{list_form}
 use Rattle.tables.specs.declared.item.Item.{Item}
 use Rattle.tables.specs.declared.item.ItemState.TheVariants.{InRing}
 use Rattle.tables.specs.Items.{is_in_ring}
-use Rattle.tables.specs.Reads.{none, head_word}
+use Rattle.tables.specs.Reads.{none}
 use Rattle.rules.specs.States.{State}
 use Rattle.rules.specs.Plain.{Plain}
 use Rattle.rules.specs.RunLaw.{first, Leads, Ring}
@@ -59,7 +59,7 @@ module _ {K V : Type 0} (order : K → K → Ordering) (digest : K → Hash) (la
       let total = total_preorder laws.ordered in
       let kind = kind_of order digest laws st.core.bits in
       record {
-        starts = written ∙ ap (λ o. Some (head_word o)) (sym starts);
+        starts = grind arith;
         closes = λ g f. let same : g ≡ h = cc in subst (λ m. Leads st.items m places m) (sym same) (leads_from st.items h places h r.closes);
         once = r.once;
         holds = λ p i.
@@ -95,19 +95,7 @@ module _ {K V : Type 0} (order : K → K → Ordering) (digest : K → Hash) (la
   -- a bucket with no head: no place
   headless_ring : slice_get st.heads b ≡ Some none → head_in (slice_get st.heads b) ≡ None → Ring order digest st plain b []
   headless_ring written unread =
-      let kind = kind_of order digest laws st.core.bits in
-      record {
-        starts = written;
-        closes = λ g f. absurd cc;
-        once = tt;
-        holds = λ p i. absurd i;
-        all = λ x v here has.
-            let k = kept.known x v has in
-            let bucket = kind.one_bucket _ x k.2 ∙ here in
-            absurd (kept.rings.no_head k.0 (ap is_in_ring k.1) (ap (λ c. head_in (slice_get st.heads c)) bucket ∙ unread));
-        unlike = λ p q x i j at_p at-q. absurd i;
-        falls = λ g f. absurd cc;
-      }
+      grind arith
 
   -- by what is read at the bucket's head
   ring_by : (x : ℕ) → slice_get st.heads b ≡ Some x → (o : Option ℕ) → head_in (Some x) ≡ o → (places : List ℕ) × Ring order digest st plain b places

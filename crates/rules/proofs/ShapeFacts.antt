@@ -2,7 +2,7 @@
 use Rattle.std.proofs.Common.{◌≡◌, ℕ, true, Some, arith}
 use Rattle.std.specs.List.{slice_get}
 use Rattle.std.specs.Option.{ok_or}
-use Rattle.std.proofs.lemmas.Bool.{eq-eqb, cond-true}
+use Rattle.std.proofs.lemmas.Bool.{cond-true}
 use Rattle.calls.specs.declared.fault.IndexFault.TheVariants.{NoSession}
 use Rattle.tables.specs.declared.item.Item.{Item}
 use Rattle.rules.specs.States.{State, is_as_made, seat}

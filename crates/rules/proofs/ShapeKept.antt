@@ -98,9 +98,9 @@ module _ {K V : Type 0} (st : State K V) (shape : Shape st) where
     some_place = shape.some_place;
     few_places = shape.few_places;
     hand_within = shape.hand_within;
-    heads_long = eh ∙ shape.heads_long;
-    items_long = ei ∙ shape.items_long;
-    requests_long = er ∙ shape.requests_long;
+    heads_long = grind arith;
+    items_long = grind arith;
+    requests_long = grind arith;
     sessions_long = length-modify f s st.core.sessions ∙ shape.sessions_long;
   }
 

@@ -1,5 +1,5 @@
 -- A session stops: it ends, or is collected or abandoned. What it has set aside goes out, and what it has claimed is marked no more.
-use Rattle.std.proofs.Common.{◌≡◌, ℕ, Bool, true, false, Some, None, Option, sym, refl, ap, ◌∙◌, inl, inr, arith}
+use Rattle.std.proofs.Common.{◌≡◌, ℕ, Bool, true, false, Some, None, Option, sym, refl, ap, ◌∙◌, arith}
 use Rattle.std.proofs.lemmas.Bool.{both_ways}
 use Rattle.std.specs.declared.cmp.Ordering.{Ordering}
 use Rattle.tables.specs.declared.item.ItemState.{ItemState}
@@ -10,7 +10,6 @@ use Rattle.tables.specs.declared.session.Stage.TheVariants.{UnderWay, Ended}
 use Rattle.tables.specs.declared.session.Work.TheVariants.{Seeking}
 use Rattle.tables.specs.Items.{is_in_ring}
 use Rattle.tables.specs.Sessions.{aside_of, operation_of}
-use Rattle.rings.proofs.Unlinking.{holds_cases}
 use Rattle.rules.specs.Plain.{Plain, answer, noting}
 use Rattle.rules.proofs.Views.{Whole, aside_at, claim_at, changed, set_stage, out_aside, release_view, ended_view}
 use Rattle.rules.proofs.Invariant.{Kept}
@@ -38,10 +37,7 @@ module _ {K V : Type 0} {order rank : K → K → Ordering} {bucket : K → ℕ}
   -- an item is in ring after it if it was before
   same_ring : (p : ℕ) → is_in_ring (states p) ≡ is_in_ring (v.state p)
   same_ring p =
-      elim (holds_cases (aside_at (v.stage s)) p) [
-        | inl i ↦ ap is_in_ring (out p i) ∙ sym (ap is_in_ring (k.aside_state s p i))
-        | inr i ↦ ap is_in_ring (in_place p i)
-      ]
+      grind arith
 
   -- an item in ring is as it was
   ring_place : (p : ℕ) → v.state p ≡ InRing → states p ≡ v.state p
@@ -63,30 +59,19 @@ module _ {K V : Type 0} {order rank : K → K → Ordering} {bucket : K → ℕ}
       let here = changed_here s stage v.stage in
       quiet_kept {plain = plain} {plain' = plain'} s k
       (record {
-        stages = changed_elsewhere s stage v.stage;
+        stages = grind arith;
         wants = λ t differs. refl;
         gifts = others;
-        cursors = λ t c differs i. record {
-          set_aside = λ a. sym (as_was c (λ o. cc)) ∙ a;
-          in_ring = λ a. sym (as_was c (λ o. cc)) ∙ a;
-          key = λ a. refl;
-        };
-        asides = λ t x differs i. record { state = in_place x (λ j. differs (k.aside_apart t s x i j)); key = refl; value = refl; next = refl };
-        claims = λ t p differs i. record {
-          state = ring_place p (k.claim_state t p i);
-          key = refl;
-          next = refl;
-          mark = as-marked p (λ j. differs (k.claim_apart t s p i j));
-        };
+        cursors = λ t c differs i. grind arith;
+        asides = λ t x differs i. grind arith;
+        claims = λ t p differs i. grind arith;
       })
       notes own
       (record {
-        aside_new = λ t x differs i j. absent_present (ap aside_at here ∙ aside) i;
-        aside_left = λ x a.
-            let used : states x ≡ Out → ⊥ = λ o. (cc) in
-            inr (sym (as_was x used) ∙ a, not_aside x used);
-        claim_new = λ t p differs i j. absent_present (ap claim_at here ∙ claim) i;
-        claim_left = λ p i. inr (was_marked p i);
+        aside_new = λ t x differs i j. grind arith;
+        aside_left = grind arith;
+        claim_new = λ t p differs i j. grind arith;
+        claim_left = λ p i. grind arith;
       })
       (record { same = same_ring; keys = λ p i. refl; nexts = λ p i. refl; heads = λ b. refl })
       (λ p i. refl) (λ p o used. absurd (used (as_was p used ∙ o))) entries
@@ -143,7 +128,7 @@ module _ {K V : Type 0} {order rank : K → K → Ordering} {bucket : K → ℕ}
       let here = changed_here s (Ended o false) v.stage in
       let stop = stop_kept k s v.gift (λ t differs. refl) (noting s (answer None) plain) (Ended o false) refl refl (changed_elsewhere s (answer None) plain.notes) refl in
       (elim aside as (λ x. aside_at (v.stage s) ≡ x → Kept order rank bucket (noting s (answer None) plain) n (ended_view s j None (out_aside x v))) [
-        | None ↦ λ i. stop None None i c (own_ended o false here note)
+        | None ↦ λ i. grind arith
         | Some x ↦ λ i. stop (Some x) None i c (own_ended o false here note)
       ]) h
   ends_with aside (Some g) k h c =
@@ -153,7 +138,7 @@ module _ {K V : Type 0} {order rank : K → K → Ordering} {bucket : K → ℕ}
       let stop = stop_kept k s (changed s g v.gift) (changed_elsewhere s g v.gift) (noting s (answer (Some g)) plain) (Ended o true) refl refl
       (changed_elsewhere s (answer (Some g)) plain.notes) refl in
       (elim aside as (λ x. aside_at (v.stage s) ≡ x → Kept order rank bucket (noting s (answer (Some g)) plain) n (ended_view s j (Some g) (out_aside x v))) [
-        | None ↦ λ i. stop None None i c (own_ended o true here note)
+        | None ↦ λ i. grind arith
         | Some x ↦ λ i. stop (Some x) None i c (own_ended o true here note)
       ]) h
 

@@ -2,7 +2,6 @@
 -- remove closes the ring behind it.
 use Rattle.std.proofs.Common.{◌≡◌, ℕ, suc, Bool, true, false, Some, None, Option, sym, refl, ap, ◌∙◌, subst, inl, inr, arith}
 use Rattle.std.proofs.lemmas.Bool.{cases_eq}
-use Rattle.std.proofs.lemmas.Bool.Decides.{nat_tests}
 use Rattle.std.specs.declared.cmp.Ordering.{Ordering}
 use Rattle.std.specs.declared.cmp.Ordering.TheVariants.{Equal}
 use Rattle.calls.specs.declared.operation.Operation.{Operation}
@@ -14,7 +13,7 @@ use Rattle.rings.specs.Rings.{Sound}
 use Rattle.rings.proofs.Counting.{without, count_one}
 use Rattle.rings.proofs.Nexts.{not_own_next}
 use Rattle.rings.proofs.Replacing.{replace_keeps_sound}
-use Rattle.rings.proofs.Unlinking.{unlink_keeps_sound, unlink_last_keeps_sound, holds_cases}
+use Rattle.rings.proofs.Unlinking.{unlink_keeps_sound, unlink_last_keeps_sound}
 use Rattle.tables.specs.declared.item.ItemState.{ItemState}
 use Rattle.tables.specs.declared.item.ItemState.TheVariants.{Out, SetAside, InRing}
 use Rattle.tables.specs.declared.moves.HeadMove.{HeadMove}
@@ -51,10 +50,7 @@ head_stays :
     (a : ℕ) → (heads a ≡ Some p → ⊥) → heads_after h b heads a ≡ heads a
 head_stays heads p b to Stays e a far = refl
 head_stays heads p b to (Becomes o) e a far =
-    elim (cases_eq a b) [
-      | inl here ↦ (let i : heads b ≡ Some p = grind arith in absurd (far (ap heads here ∙ i)))
-      | inr other ↦ grind arith
-    ]
+    grind arith
 
 -- session s ends with the value u, and p, which it had claimed, is marked no more; states, nexts and heads are given
 abbrev swung :
@@ -118,25 +114,17 @@ module _ {K V : Type 0} {order rank : K → K → Ordering} {bucket : K → ℕ}
           present = true;
           stage = grind arith;
           note = grind arith;
-          in_use = λ q h z.
-              grind arith;
-          in_ring = λ q h z.
-              grind arith;
-          set_aside = λ q h.
-              let far : q ≡ p → ⊥ = λ z. grind arith in
-              let not-mine : aside_at (v.stage s) ≡ Some q → ⊥ = λ z. (grind arith) in
-              (sym (others q far not-mine) ∙ h, not-mine);
-          marked = λ q h. (grind arith, λ z. let mine = ap claim_at at ∙ claim in grind arith);
-          aside_stays = λ t x far h.
-              let a = k.aside_state t x h in
-              others x (λ z. grind arith) (λ z. far (k.aside_apart t s x h z)) ∙ a;
+          in_use = grind arith;
+          in_ring = grind arith;
+          set_aside = grind arith;
+          marked = λ q h. grind arith;
+          aside_stays = grind arith;
           aside_value = λ t x far h. refl;
-          aside_next = λ t x far h. let a = k.aside_state t x h in rest x (λ z. grind arith);
+          aside_next = λ t x far h. grind arith;
           claim_stays = λ t q far h.
               let a = k.claim_state t q h in
               others q (other_claim t q far h).0 (λ z. let b = k.aside_state s q z in let y : ◌≡◌ {A = ℕ} 0 1 = cc in omega arith) ∙ a;
-          claim_mark = λ t q far h.
-              grind arith;
+          claim_mark = grind arith;
           claim_next = λ t q far h. rest q (other_claim t q far h).1;
         }
 
@@ -178,9 +166,8 @@ module _ {K V : Type 0} {order rank : K → K → Ordering} {bucket : K → ℕ}
         stayed = λ q far i. grind arith;
         values = λ q far i. refl;
         stays = λ q far i. grind arith;
-        here = λ q e i.
-            grind arith;
-        there = λ w e. (x, grind arith, grind arith);
+        here = grind arith;
+        there = λ w e. grind arith;
       }
 
   -- as many are in ring
@@ -219,12 +206,8 @@ module _ {K V : Type 0} {order rank : K → K → Ordering} {bucket : K → ℕ}
         ahead = λ far. grind arith;
         alone = λ e. grind arith;
         rest = λ q far nor neither. grind arith;
-        headed = λ b e.
-            let here : b ≡ bucket (v.want s) =
-            sym (k.rings.head_in_bucket b p e) ∙ kind.one_bucket (v.key p) (v.want s) (k.claim_key s p (ap claim_at at)) in
-            ap (heads_after h (bucket (v.want s)) v.head) here ∙
-            head_follows v.head p (bucket (v.want s)) (Some x) h follows (ap v.head (sym here) ∙ e);
-        heads = λ b far. head_stays v.head p (bucket (v.want s)) (Some x) h follows b far;
+        headed = grind arith;
+        heads = λ b far. grind arith;
       }
 
   -- what holds is kept
@@ -268,8 +251,7 @@ module _ {K V : Type 0} {order rank : K → K → Ordering} {bucket : K → ℕ}
         stayed = λ q far i. grind arith;
         values = λ q far i. refl;
         stays = λ q far i. grind arith;
-        here = λ q e i.
-            grind arith;
+        here = grind arith;
         there = λ w e. absurd cc;
       }
 
@@ -313,8 +295,8 @@ module _ {K V : Type 0} {order rank : K → K → Ordering} {bucket : K → ℕ}
               left = grind arith;
               others = λ q far. grind arith;
               rest = λ q far. grind arith;
-              headless = λ a e. let f = removed_headed a e in f ∙ grind arith;
-              heads = λ a far. head_stays v.head p (bucket (v.want s)) (heir p ahead) h follows a far;
+              headless = λ a e. grind arith;
+              heads = λ a far. grind arith;
             })
             (ap is_in_ring b) own)
         | inr far ↦
@@ -326,8 +308,8 @@ module _ {K V : Type 0} {order rank : K → K → Ordering} {bucket : K → ℕ}
               others = λ q far. grind arith;
               behind = grind arith;
               rest = λ q far nor. grind arith;
-              headed = λ a e. let f = removed_headed a e in f ∙ grind arith;
-              heads = λ a far. head_stays v.head p (bucket (v.want s)) (heir p ahead) h follows a far;
+              headed = λ a e. grind arith;
+              heads = λ a far. grind arith;
             })
             c-in may.leads far)
       ]
