@@ -27,10 +27,6 @@ module _ {K V : Type 0} {order rank : K → K → Ordering} {bucket : K → ℕ}
     (k : Kept order rank bucket plain n v) (e : v.stage s ≡ UnderWay work) (none : claim_of work ≡ None)
     (m : ℕ) (ring : v.state m ≡ InRing) (alike : order (v.key m) (v.want s) ≡ Equal) (free : v.mark m ≡ false)
     (nexts : ℕ → ℕ) (rest : (p : ℕ) → (aside_at (v.stage s) ≡ Some p → ⊥) → nexts p ≡ v.next p) where
-  -- what is in ring is not set aside
-  ring_next : (p : ℕ) → v.state p ≡ InRing → nexts p ≡ v.next p
-  ring_next p i = rest p (λ j. let a = k.aside_state s p j in cc)
-
   -- it goes on as the claim's work
   pub claim_made :
       (work' : Work) → claim_of work' ≡ Some m → job_of work ≡ job_of work' → cursor_of work ≡ cursor_of work' →

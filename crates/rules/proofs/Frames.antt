@@ -235,22 +235,6 @@ module _ {K V : Type 0} {order : K → K → Ordering} {bucket : K → ℕ} {pla
             (cc);
       }
 
--- places that sessions hold, before and after a call on session s, which leaves the others theirs
-module _ (before after : ℕ → Option ℕ) (s : ℕ) (others : (t : ℕ) → (t ≡ s → ⊥) → after t ≡ before t) where
-  -- no place is held by two, if none was and what s holds is no other's
-  still_apart :
-      ((t x : ℕ) → (t ≡ s → ⊥) → after s ≡ Some x → before t ≡ Some x → ⊥) →
-      ((t u x : ℕ) → before t ≡ Some x → before u ≡ Some x → t ≡ u) →
-      (t u x : ℕ) → after t ≡ Some x → after u ≡ Some x → t ≡ u
-  still_apart new apart t u x i j =
-      grind arith
-
-  -- a place that another session held is held
-  still_owned : (x : ℕ) → (before s ≡ Some x → ⊥) → (t : ℕ) × (before t ≡ Some x) → (t : ℕ) × (after t ≡ Some x)
-  still_owned x not-mine owner =
-      let other : owner.0 ≡ s → ⊥ = λ e. not-mine (ap before (sym e) ∙ owner.1) in
-      (owner.0, others owner.0 other ∙ owner.1)
-
 -- a call on session s that frames the others keeps the invariant, if it holds of s, of the rings and of the plain table
 pub frame_kept :
     {K V : Type 0} {order rank : K → K → Ordering} {bucket : K → ℕ} {plain plain' : Plain K V} {n : ℕ} {v w : Whole K V} (s : ℕ) →

@@ -5,20 +5,11 @@ use Rattle.std.proofs.lemmas.Bool.{cases_eq, cases_Bool}
 use Rattle.tables.specs.declared.item.Item.{Item}
 use Rattle.tables.specs.declared.item.ItemState.TheVariants.{Out}
 use Rattle.tables.specs.declared.session.Session.{Session}
-use Rattle.tables.specs.declared.session.Stage.{Stage}
 use Rattle.rules.specs.States.{State}
 use Rattle.rules.specs.Free.{stands_on, is_stood_on, place_after, first_from, is_free, first_free}
 use Rattle.rules.proofs.Invariant.{Shape}
 use Rattle.rules.proofs.Reading.{nth_within, nth_bound}
 use Rattle.rules.proofs.Views.{whole, stage_in, cursor_at}
-
--- a session at this stage that stands on p has its cursor there
-stands_cursor : (p : ℕ) (stage : Stage) → stands_on p stage ≡ true → cursor_at stage ≡ Some p
-stands_cursor p stage h = grind arith
-
--- and one that has its cursor on p stands there
-cursor_stands : (p : ℕ) (stage : Stage) → cursor_at stage ≡ Some p → stands_on p stage ≡ true
-cursor_stands p stage h = grind arith
 
 -- if p is not stood on, no session has its cursor there
 not_stood_on : (p : ℕ) (ss : List Session) → is_stood_on p ss ≡ false → (s : ℕ) → cursor_at (stage_in (slice_get ss s)) ≡ Some p → ⊥

@@ -1,6 +1,5 @@
 -- The moves by which a session goes on seeking: it steps, leaves where it stood, gives up its claim, or waits.
-use Rattle.std.proofs.Common.{◌≡◌, ℕ, Bool, true, false, Some, None, Option, sym, refl, ap, ◌∙◌, arith}
-use Rattle.std.proofs.lemmas.Bool.{both_ways}
+use Rattle.std.proofs.Common.{◌≡◌, ℕ, Bool, false, Some, None, Option, sym, refl, ap, ◌∙◌, arith}
 use Rattle.std.specs.declared.cmp.Ordering.{Ordering}
 use Rattle.tables.specs.declared.item.ItemState.TheVariants.{InRing}
 use Rattle.tables.specs.declared.moves.Move.TheVariants.{Step, Leave, GiveUp, Wait}
@@ -27,12 +26,6 @@ module _ {K V : Type 0} {order rank : K → K → Ordering} {bucket : K → ℕ}
   -- a claim of another session is not this one's
   other_claim : (t p : ℕ) → (t ≡ s → ⊥) → claim_at (v.stage t) ≡ Some p → claim_of work ≡ Some p → ⊥
   other_claim t p differs i j = differs (k.claim_apart t s p i (ap claim_at e ∙ j))
-
-  -- what is marked is still so, and is not this session's claim
-  still_marked : (p : ℕ) → marks p ≡ true → (v.mark p ≡ true) × (claim_at (v.stage s) ≡ Some p → ⊥)
-  still_marked p i =
-      let mine : claim_at (v.stage s) ≡ Some p → ⊥ = λ j. both_ways (marks p) (off p (sym (ap claim_at e) ∙ j)) i in
-      (sym (rest p (λ j. mine (ap claim_at e ∙ j))) ∙ i, mine)
 
   -- it goes on seeking from a place in ring in its key's bucket, or from none
   seek_with :

@@ -10,7 +10,6 @@ use Rattle.calls.specs.declared.fault.IndexFault.TheVariants.{HeadBits, TableLen
 use Rattle.calls.specs.declared.reply.Reply.{Reply}
 use Rattle.calls.specs.declared.reply.Reply.TheVariants.{Begun, Turned, Collected, Abandoned}
 use Rattle.keys.specs.Hashes.{Hash}
-use Rattle.keys.specs.Ranks.{bucket_of}
 use Rattle.tables.specs.declared.item.Item.{Item}
 use Rattle.tables.specs.declared.moves.Move.{Move}
 use Rattle.tables.specs.declared.request.Request.{Request}
@@ -20,12 +19,11 @@ use Rattle.tables.specs.declared.session.Stage.{Stage}
 use Rattle.tables.specs.declared.session.Stage.TheVariants as stage
 use Rattle.tables.specs.declared.session.Work.{Work}
 use Rattle.tables.specs.declared.session.Work.TheVariants.{Seeking, Replacing, Removing}
-use Rattle.tables.specs.Reads.{read_next, head_place}
 use Rattle.rules.specs.States.{State, seat}
 use Rattle.rules.specs.Abandon.{abandon, abandon_seat}
 use Rattle.rules.specs.Begin.{begin}
 use Rattle.rules.specs.Collect.{collect, collect_seat}
-use Rattle.rules.specs.Decide.{head_here, on_pair, on_item, swing_ready, replace_claimed, remove_claimed, decide}
+use Rattle.rules.specs.Decide.{on_item, decide}
 use Rattle.rules.specs.Steps.{replied, step_by}
 use Rattle.rules.specs.Turn.{turn, turn_move, turn_request, turn_stage, turn_seat}
 
@@ -51,36 +49,12 @@ wants_place (Err f) = is_no_place f
 seat_wants_none : {K V : Type 0} (st : State K V) (s : ℕ) → wants_place (seat st s) ≡ false
 seat_wants_none st s = grind arith
 
-head_wants_none : (n : ℕ) (o : Option ℕ) → wants_place (head_place n o) ≡ false
-head_wants_none n None = refl
-head_wants_none n (Some h) = grind arith
-
-next_wants_none : {K V : Type 0} (n : ℕ) (it : Item K V) → wants_place (read_next n it) ≡ false
-next_wants_none n it = grind arith
-
 -- nor what a turn decides, stage by stage
 module _ {K V : Type 0} (order : K → K → Ordering) (digest : K → Hash) (st : State K V) (q : K) where
-  here_wants_none : wants_place (head_here order digest st q) ≡ false
-  here_wants_none = head_wants_none st.core.places (slice_get st.heads (bucket_of order digest st.core.bits q))
-
-  pair_wants_none : (j : Job) (pair : ℕ × ℕ) (it nx : Item K V) → wants_place (on_pair order digest st q j pair it nx) ≡ false
-  pair_wants_none j pair it nx = grind arith
-
   item_wants_none : (j : Job) (c : ℕ) (o : Option (Item K V)) → wants_place (on_item order digest st q j c o) ≡ false
   item_wants_none j c None = refl
   item_wants_none j c (Some it) =
       grind arith
-
-  ready_wants_none : (pair : ℕ × ℕ) (o : Option (Item K V)) → wants_place (swing_ready order digest st q pair o) ≡ false
-  ready_wants_none pair None = refl
-  ready_wants_none pair (Some it) = grind arith
-
-  replace_wants_none : (x : ℕ) (pair : ℕ × ℕ) (o : Option (Item K V)) → wants_place (replace_claimed order digest st q x pair o) ≡ false
-  replace_wants_none x pair o = grind arith
-
-  remove_wants_none : (pair : ℕ × ℕ) (o : Option (Item K V)) → wants_place (remove_claimed order digest st q pair o) ≡ false
-  remove_wants_none pair None = refl
-  remove_wants_none pair (Some it) = grind arith
 
   decide_wants_none : (w : Work) → wants_place (decide order digest st q w) ≡ false
   decide_wants_none (Seeking j None) = grind arith

@@ -11,11 +11,6 @@ use Rattle.calls.specs.declared.operation.Operation.TheVariants.{Insert, Replace
 use Rattle.calls.specs.Operations.{leaves}
 use Rattle.rules.specs.Plain.{found, stored, deleted, put, Apart}
 
--- what is found is absent or some value
-pub found_cases : {V : Type 0} (o : Option V) → (o ≡ None) ⊎ ((v : V) × (o ≡ Some v))
-found_cases None = inl refl
-found_cases (Some v) = inr (v, refl)
-
 -- two keys are alike or not
 pub alike_cases : (o : Ordering) → (o ≡ Equal) ⊎ (o ≡ Equal → ⊥)
 alike_cases Less = inr (λ e. cc)

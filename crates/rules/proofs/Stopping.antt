@@ -1,9 +1,8 @@
 -- A session stops: it ends, or is collected or abandoned. What it has set aside goes out, and what it has claimed is marked no more.
 use Rattle.std.proofs.Common.{◌≡◌, ℕ, Bool, true, false, Some, None, Option, sym, refl, ap, ◌∙◌, arith}
-use Rattle.std.proofs.lemmas.Bool.{both_ways}
 use Rattle.std.specs.declared.cmp.Ordering.{Ordering}
 use Rattle.tables.specs.declared.item.ItemState.{ItemState}
-use Rattle.tables.specs.declared.item.ItemState.TheVariants.{Out, InRing}
+use Rattle.tables.specs.declared.item.ItemState.TheVariants.{Out}
 use Rattle.tables.specs.declared.session.Job.{Job}
 use Rattle.tables.specs.declared.session.Stage.{Stage}
 use Rattle.tables.specs.declared.session.Stage.TheVariants.{UnderWay, Ended}
@@ -38,16 +37,6 @@ module _ {K V : Type 0} {order rank : K → K → Ordering} {bucket : K → ℕ}
   same_ring : (p : ℕ) → is_in_ring (states p) ≡ is_in_ring (v.state p)
   same_ring p =
       grind arith
-
-  -- an item in ring is as it was
-  ring_place : (p : ℕ) → v.state p ≡ InRing → states p ≡ v.state p
-  ring_place p r = in_place p (λ i. let a = k.aside_state s p i in cc)
-
-  -- what is marked was so, and is not the session's claim
-  was_marked : (p : ℕ) → marks p ≡ true → (v.mark p ≡ true) × (claim_at (v.stage s) ≡ Some p → ⊥)
-  was_marked p i =
-      let mine : claim_at (v.stage s) ≡ Some p → ⊥ = λ j. both_ways (marks p) (off p j) i in
-      (sym (as-marked p mine) ∙ i, mine)
 
   -- it keeps the invariant, if the session's note is right
   stop_with :

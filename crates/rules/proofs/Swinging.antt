@@ -3,7 +3,6 @@
 use Rattle.std.proofs.Common.{◌≡◌, ℕ, suc, Bool, true, false, Some, None, Option, sym, refl, ap, ◌∙◌, subst, inl, inr, arith}
 use Rattle.std.proofs.lemmas.Bool.{cases_eq}
 use Rattle.std.specs.declared.cmp.Ordering.{Ordering}
-use Rattle.std.specs.declared.cmp.Ordering.TheVariants.{Equal}
 use Rattle.calls.specs.declared.operation.Operation.{Operation}
 use Rattle.calls.specs.declared.operation.Operation.TheVariants as operation
 use Rattle.keys.proofs.Preorders.{total_preorder}
@@ -40,18 +39,6 @@ abbrev heads_after : HeadMove → ℕ → (ℕ → Option ℕ) → ℕ → Optio
 heads_after Stays b heads = heads
 heads_after (Becomes o) b heads = changed b o heads
 
--- a head that was p becomes what follows it
-head_follows : (heads : ℕ → Option ℕ) (p b : ℕ) (to : Option ℕ) (h : HeadMove) → h ≡ followed p to (heads b) → heads b ≡ Some p → heads_after h b heads b ≡ to
-head_follows heads p b to h e i = let f : h ≡ Becomes to = grind arith in ap (λ m. heads_after m b heads b) f ∙ grind arith
-
--- a head that was not p stays
-head_stays :
-    (heads : ℕ → Option ℕ) (p b : ℕ) (to : Option ℕ) (h : HeadMove) → h ≡ followed p to (heads b) →
-    (a : ℕ) → (heads a ≡ Some p → ⊥) → heads_after h b heads a ≡ heads a
-head_stays heads p b to Stays e a far = refl
-head_stays heads p b to (Becomes o) e a far =
-    grind arith
-
 -- session s ends with the value u, and p, which it had claimed, is marked no more; states, nexts and heads are given
 abbrev swung :
     {K V : Type 0} → ℕ → Operation → ℕ → V → (ℕ → ItemState) → (ℕ → ℕ) → (ℕ → Option ℕ) → Whole K V → Whole K V
@@ -73,13 +60,6 @@ module _ {K V : Type 0} {order rank : K → K → Ordering} {bucket : K → ℕ}
   -- p is in ring, and the only one there with the sought key
   claimed_in : v.state p ≡ InRing
   claimed_in = k.claim_state s p (ap claim_at at ∙ claim)
-
-  only_claimed : (q : ℕ) → v.state q ≡ InRing → order (v.key q) (v.want s) ≡ Equal → q ≡ p
-  only_claimed q i e =
-      let o = total_preorder kind.ordered in
-      let a = k.claim_key s p (ap claim_at at ∙ claim) in
-      let b = o.alike_chained (v.key q) (v.want s) (v.key p) e (o.alike_turned (v.key p) (v.want s) a) in
-      k.rings.unlike q p (ap is_in_ring i) (ap is_in_ring claimed_in) (kind.rank_same (v.key q) (v.key p) b)
 
   -- what the plain table has for it is the value of p
   claimed_found : found order (v.want s) plain.entries ≡ Some (v.value p)
@@ -272,14 +252,6 @@ module _ {K V : Type 0} {order rank : K → K → Ordering} {bucket : K → ℕ}
       let fewer = removed_counted in
       puts_agree (done_by order s operation.Remove v plain) refl kind.ordered k removed_puts
       (omega arith)
-
-  -- a head that was p is the head of the sought key's bucket, and becomes p's heir
-  removed_headed : (b : ℕ) → v.head b ≡ Some p → heads_after h (bucket (v.want s)) v.head b ≡ heir p ahead
-  removed_headed b e =
-      let here : b ≡ bucket (v.want s) =
-      sym (k.rings.head_in_bucket b p e) ∙ kind.one_bucket (v.key p) (v.want s) (k.claim_key s p (ap claim_at at)) in
-      ap (heads_after h (bucket (v.want s)) v.head) here ∙
-      head_follows v.head p (bucket (v.want s)) (heir p ahead) h follows (ap v.head (sym here) ∙ e)
 
   -- the rings are sound: the one before p leads to what p led to, or p was alone
   removed_sound : Sound rank bucket (rings_of removed_view)
