@@ -45,10 +45,7 @@ impl Name {
         }
         let mut kept = [0u8; 12];
         kept[..count].copy_from_slice(bytes);
-        Ok(Name {
-            bytes: kept,
-            count,
-        })
+        Ok(Name { bytes: kept, count })
     }
 
     // The bytes of the name.
