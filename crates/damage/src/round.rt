@@ -19,8 +19,8 @@ pub struct Round {
     lengths: Lengths,
     manner: Manner,
     sessions: u32,
-    // how many calls to a damage, in the mean; 0 for none at all
-    calls_to_harm: u32,
+    // how many calls to a damage, in the mean, where there is any
+    calls_to_harm: Option<u32>,
     ghost sessions_fit: { (0 < sessions) × (sessions ≤ 16) },
 }
 
@@ -55,7 +55,7 @@ fn spoiled(lengths: Lengths, dice: &mut Dice) -> Lengths {
 }
 
 impl Round {
-    fn draw(dice: &mut Dice, calls_to_harm: u32) -> Round {
+    fn draw(dice: &mut Dice, calls_to_harm: Option<u32>) -> Round {
         let bits = dice.below(4) as u8;
         let places = dice.below(12) + 1;
         let buckets: usize = 1 << bits;
@@ -147,13 +147,15 @@ impl Round {
             deed: Deed::Make(if dice.once_in(64) { 9 } else { self.bits }),
         };
         trial.ask(making, tally);
-        if self.calls_to_harm > 0 && dice.once_in(2) {
+        if self.calls_to_harm.is_some() && dice.once_in(2) {
             self.damage(&mut trial, dice, tally);
         }
         for _ in 0..200 {
             let ask = self.ask(&trial, dice);
             trial.ask(ask, tally);
-            if self.calls_to_harm > 0 && dice.once_in(self.calls_to_harm) {
+            if let Some(calls) = self.calls_to_harm
+                && dice.once_in(calls)
+            {
                 self.damage(&mut trial, dice, tally);
             }
         }
@@ -164,17 +166,17 @@ impl Round {
 pub fn run_round(number: u32, tally: &mut Tally) {
     let mut dice = Dice::new(number as u64);
     let calls_to_harm = match number % 4 {
-        0 => 0,
-        1 => 4,
-        2 => 16,
-        _ => 64,
+        0 => None,
+        1 => Some(4),
+        2 => Some(16),
+        _ => Some(64),
     };
     let round = Round::draw(&mut dice, calls_to_harm);
     let mut tables = UNUSED;
     round.manner.fill(&mut tables, &mut dice);
     let outside = tally.refused(IndexFault::OutsideTable);
     round.run(tables, &mut dice, tally);
-    if calls_to_harm == 0 {
+    if calls_to_harm.is_none() {
         tally.count_undamaged(tally.refused(IndexFault::OutsideTable) == outside);
     }
 }
