@@ -1,5 +1,5 @@
 -- Bytes taken in, and lines answered.
-use Rattle.std.proofs.Common.{◌≡◌, ℕ, suc, ◌+◌, ◌-◌, ◌≤◌, ◌<◌, min, Bool, true, false, cond, None, Some, Option, List, [], ◌∷◌, ◌++◌, length, take, drop, get_or, sym, refl, ap, ◌∙◌, arith, ◌==◌, take-add}
+use Rattle.std.proofs.Common.{◌≡◌, ℕ, suc, ◌+◌, ◌-◌, ◌≤◌, ◌<◌, min, true, false, cond, None, List, [], ◌∷◌, ◌++◌, length, take, drop, get_or, sym, refl, ap, ◌∙◌, arith, ◌==◌, take-add}
 use Rattle.memchr.specs.Find.{IsFirstByte, Passes, is_byte}
 use Rattle.std.proofs.lemmas.List.{take_all, take_more, get_or-take, get_or-drop, length-append, length-take, length-drop, drop-drop}
 use Rattle.std.proofs.lemmas.List.Sums.{fold-append, fold_push}

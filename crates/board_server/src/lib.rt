@@ -5,6 +5,5 @@ pub mod answer;
 pub mod board_index;
 pub mod fault;
 pub mod server;
-mod serving;
 pub mod show;
 pub mod stream;

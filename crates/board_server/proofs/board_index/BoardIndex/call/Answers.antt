@@ -13,7 +13,7 @@ goes_on g c =
     let self = c.args.self.now in
     let before = same_state {c = self.record.core} refl c.deref_mut.ensures.value c.deref_mut-2.ensures.value c.deref_mut-3.ensures.value in
     let behind = same_state {c = c.call.new.self.core} refl (come_back self.heads c.call.new.heads (omega arith)) (come_back self.items c.call.new.items (omega arith)) (come_back self.requests c.call.new.requests (omega arith)) in
-    law_between g.B.Key.Key.order g.B.Key.Key.digest c.args.call c.call.result before behind c.call.ensures.law
+    law_between g.B.Key.Key.order g.B.Key.Key.digest _ before behind c.call.ensures.law
 
 pub invariant_of-self : goal.invariant_of-self
 invariant_of-self g c =

@@ -1,4 +1,4 @@
-use Rattle.std.proofs.Common.{◌≡◌, ◌≤◌, [], ◌∷◌, length, ap, sym, ◌∙◌, arith}
+use Rattle.std.proofs.Common.{◌≤◌, [], ◌∷◌, length, ap, sym, ◌∙◌, arith}
 use Rattle.text.specs.Kept.{added}
 use Rattle.board_server.specs.Answers.{appended}
 use Rattle.board_server.specs.Served.{boards_of}
