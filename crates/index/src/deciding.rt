@@ -11,7 +11,6 @@ use keys::rank::have_one_rank;
 use rings::between::falls_between;
 use tables::heads::head_of;
 use tables::item::{Item, ItemState};
-use tables::items::next_of;
 use tables::moves::Move;
 use tables::session::Job;
 
@@ -32,8 +31,8 @@ fn miss_empty<V: Copy>(job: Job) -> Move<V>
 }
 
 // The key falls between the pair, of which `item` is the first.
-fn miss_between<K: Copy, V: Copy>(job: Job, pair: (u32, u32), item: Item<K, V>) -> Move<V>
-    ensures { result ≡ miss_between job pair item }
+fn miss_between<K: Copy, V: Copy>(job: Job, pair: (u32, u32), item: &Item<K, V>) -> Move<V>
+    ensures { result ≡ miss_between job pair item.now }
 {
     match job {
         Job::Insert(_) if item.occupied => Move::Wait,
@@ -60,15 +59,20 @@ impl<'a, K: Key, V: Copy> Seeker<'a, K, V> {
         )
     }
 
-    pub(crate) fn next(&self, item: Item<K, V>) -> Result<u32, IndexFault>
-        ensures { result ≡ next_of K.Key.order K.Key.digest (seen_by self.now) self.now.key item }
+    pub(crate) fn next(&self, item: &Item<K, V>) -> Result<u32, IndexFault>
+        ensures { result ≡ next_of K.Key.order K.Key.digest (seen_by self.now) self.now.key item.now }
     {
-        next_of(item, self.core.places)
+        item.next_in(self.core.places)
     }
 
     // The second of the pair has the sought key.
-    fn hit_ahead(&self, job: Job, pair: (u32, u32), next: Item<K, V>) -> Result<Move<V>, IndexFault>
-        ensures { result ≡ hit_ahead K.Key.order K.Key.digest (seen_by self.now) self.now.key job pair next }
+    fn hit_ahead(
+        &self,
+        job: Job,
+        pair: (u32, u32),
+        next: &Item<K, V>,
+    ) -> Result<Move<V>, IndexFault>
+        ensures { result ≡ hit_ahead K.Key.order K.Key.digest (seen_by self.now) self.now.key job pair next.now }
     {
         match job {
             Job::Replace(_) | Job::Remove if next.occupied => Ok(Move::Wait),
@@ -89,10 +93,10 @@ impl<'a, K: Key, V: Copy> Seeker<'a, K, V> {
         &self,
         job: Job,
         pair: (u32, u32),
-        item: Item<K, V>,
-        next: Item<K, V>,
+        item: &Item<K, V>,
+        next: &Item<K, V>,
     ) -> Result<Move<V>, IndexFault>
-        ensures { result ≡ on_pair K.Key.order K.Key.digest (seen_by self.now) self.now.key job pair item next }
+        ensures { result ≡ on_pair K.Key.order K.Key.digest (seen_by self.now) self.now.key job pair item.now next.now }
     {
         if looks_ahead(job) && self.has_rank(next.key) {
             return self.hit_ahead(job, pair, next);
@@ -104,8 +108,8 @@ impl<'a, K: Key, V: Copy> Seeker<'a, K, V> {
     }
 
     // The pair of the item stood on and the one after it.
-    fn pair_from(&self, cursor: u32, item: Item<K, V>) -> Result<(u32, u32), IndexFault>
-        ensures { result ≡ pair_from K.Key.order K.Key.digest (seen_by self.now) self.now.key cursor item }
+    fn pair_from(&self, cursor: u32, item: &Item<K, V>) -> Result<(u32, u32), IndexFault>
+        ensures { result ≡ pair_from K.Key.order K.Key.digest (seen_by self.now) self.now.key cursor item.now }
     {
         Ok((cursor, self.next(item)?))
     }
@@ -118,22 +122,26 @@ impl<'a, K: Key, V: Copy> Seeker<'a, K, V> {
     }
 
     // The item stood on is in ring.
-    fn on_ring(&self, job: Job, cursor: u32, item: Item<K, V>) -> Result<Move<V>, IndexFault>
-        ensures { result ≡ on_ring K.Key.order K.Key.digest (seen_by self.now) self.now.key job cursor item }
+    fn on_ring(&self, job: Job, cursor: u32, item: &Item<K, V>) -> Result<Move<V>, IndexFault>
+        ensures { result ≡ on_ring K.Key.order K.Key.digest (seen_by self.now) self.now.key job cursor item.now }
     {
         if self.is_here(job, item.key) {
             return Ok(Move::Present(cursor, item.value));
         }
         let pair = self.pair_from(cursor, item)?;
-        let next = self.item(pair.1)?;
-        self.on_pair(job, pair, item, next)
+        match self.items.get(pair.1 as usize) {
+            None => Err(IndexFault::OutsideTable),
+            Some(next) => self.on_pair(job, pair, item, next),
+        }
     }
 
     // The item stood on, whatever it is.
     fn on_item(&self, job: Job, cursor: u32) -> Result<Move<V>, IndexFault>
         ensures { result ≡ on_item K.Key.order K.Key.digest (seen_by self.now) self.now.key job cursor (slice_get self.now.items.now cursor) }
     {
-        let item = self.item(cursor)?;
+        let Some(item) = self.items.get(cursor as usize) else {
+            return Err(IndexFault::OutsideTable);
+        };
         match item.state {
             ItemState::InRing => self.on_ring(job, cursor, item),
             ItemState::Out | ItemState::SetAside => Ok(Move::Leave),

@@ -29,8 +29,8 @@ fn heir_of(place: u32, ahead: u32) -> Option<u32>
 }
 
 // Whether the first of the pair leads to the second, and is unoccupied or is the second itself.
-fn may_swing<K: Copy, V: Copy>(pair: (u32, u32), item: Item<K, V>) -> bool
-    ensures { result ≡ may_swing pair item }
+fn may_swing<K: Copy, V: Copy>(pair: (u32, u32), item: &Item<K, V>) -> bool
+    ensures { result ≡ may_swing pair item.now }
 {
     item.next == pair.1 && (!item.occupied || pair.0 == pair.1)
 }
@@ -40,31 +40,43 @@ impl<'a, K: Key, V: Copy> Seeker<'a, K, V> {
     fn swing_ready(&self, pair: (u32, u32)) -> Result<bool, IndexFault>
         ensures { result ≡ swing_ready K.Key.order K.Key.digest (seen_by self.now) self.now.key pair (slice_get self.now.items.now pair.0) }
     {
-        let item = self.item(pair.0)?;
-        let ItemState::InRing = item.state else {
-            return Ok(false);
-        };
-        self.next(item)?;
-        Ok(may_swing(pair, item))
+        match self.items.get(pair.0 as usize) {
+            None => Err(IndexFault::OutsideTable),
+            Some(item) => match item.state {
+                ItemState::Out | ItemState::SetAside => Ok(false),
+                ItemState::InRing => {
+                    self.next(item)?;
+                    Ok(may_swing(pair, item))
+                }
+            },
+        }
     }
 
     // The claimed item gives way to the one set aside.
     fn replace_claimed(&self, aside: u32, pair: (u32, u32)) -> Result<Move<V>, IndexFault>
         ensures { result ≡ replace_claimed K.Key.order K.Key.digest (seen_by self.now) self.now.key aside pair (slice_get self.now.items.now pair.1) }
     {
-        let claimed = self.item(pair.1)?;
-        let head = follow(pair.1, Some(aside), self.head()?);
-        Ok(Move::SwingIn(aside, pair, head, claimed.value))
+        match self.items.get(pair.1 as usize) {
+            None => Err(IndexFault::OutsideTable),
+            Some(claimed) => {
+                let head = follow(pair.1, Some(aside), self.head()?);
+                Ok(Move::SwingIn(aside, pair, head, claimed.value))
+            }
+        }
     }
 
     // The claimed item is cut out.
     fn remove_claimed(&self, pair: (u32, u32)) -> Result<Move<V>, IndexFault>
         ensures { result ≡ remove_claimed K.Key.order K.Key.digest (seen_by self.now) self.now.key pair (slice_get self.now.items.now pair.1) }
     {
-        let claimed = self.item(pair.1)?;
-        let ahead = self.next(claimed)?;
-        let head = follow(pair.1, heir_of(pair.1, ahead), self.head()?);
-        Ok(Move::SwingOut(pair, ahead, head, claimed.value))
+        match self.items.get(pair.1 as usize) {
+            None => Err(IndexFault::OutsideTable),
+            Some(claimed) => {
+                let ahead = self.next(claimed)?;
+                let head = follow(pair.1, heir_of(pair.1, ahead), self.head()?);
+                Ok(Move::SwingOut(pair, ahead, head, claimed.value))
+            }
+        }
     }
 
     // What a turn does next. It reads, and writes nothing.
@@ -73,11 +85,20 @@ impl<'a, K: Key, V: Copy> Seeker<'a, K, V> {
     {
         match work {
             Work::Seeking(job, cursor) => self.seek(job, cursor),
-            Work::Replacing(aside, pair) if self.swing_ready(pair)? => {
-                self.replace_claimed(aside, pair)
+            Work::Replacing(aside, pair) => {
+                if self.swing_ready(pair)? {
+                    self.replace_claimed(aside, pair)
+                } else {
+                    Ok(Move::GiveUp(pair.1))
+                }
             }
-            Work::Removing(pair) if self.swing_ready(pair)? => self.remove_claimed(pair),
-            Work::Replacing(_, pair) | Work::Removing(pair) => Ok(Move::GiveUp(pair.1)),
+            Work::Removing(pair) => {
+                if self.swing_ready(pair)? {
+                    self.remove_claimed(pair)
+                } else {
+                    Ok(Move::GiveUp(pair.1))
+                }
+            }
         }
     }
 }

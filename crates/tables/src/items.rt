@@ -3,10 +3,8 @@ ghost use Rattle.std.specs.Fn.{FnOnceReturnsAtMut};
 ghost use Rattle.std.specs.List.{slice_get};
 ghost use Rattle.tables.specs.Items.{with_state, with_next, with_mark, with_value, prepared_at};
 ghost use Rattle.tables.specs.Lists.{modify};
-ghost use Rattle.tables.specs.Reads.{read_next};
 
 use crate::item::{Item, ItemState};
-use calls::fault::IndexFault;
 
 // What stands at a place of a table, if there is such a place.
 pub fn element_at<T: Copy>(table: &[T], place: usize) -> Option<T>
@@ -32,17 +30,6 @@ pub fn change<T, F: FnOnce(&mut T)>(table: &mut [T], place: usize, by: F)
 {
     if place < table.len() {
         by(&mut table[place]);
-    }
-}
-
-// The next of an item, as a place of a table of `places`.
-pub fn next_of<K: Copy, V: Copy>(item: Item<K, V>, places: u32) -> Result<u32, IndexFault>
-    ensures { result ≡ read_next places item }
-{
-    if item.next < places {
-        Ok(item.next)
-    } else {
-        Err(IndexFault::OutsideTable)
     }
 }
 
