@@ -30,7 +30,7 @@ impl Record {
         let count = calls.len().min(replies.len());
         for i in 0..count {
             let reply = self.call_step(heads, items, requests, calls[i]);
-            // not `replies[i] = ..`: at a type made of V the bound of the offset is not found here
+            // not `replies[i] = ..`: at a type that holds a V the bound of the offset is not found
             put_element(replies, i, reply);
         }
         count

@@ -83,6 +83,7 @@ impl<'a, K: Key, V: Copy> Seeker<'a, K, V> {
     pub(crate) fn decide(&self, work: Work) -> Result<Move<V>, IndexFault>
         ensures { result ≡ decide K.Key.order K.Key.digest (seen_by self.now) self.now.key work }
     {
+        // an arm for each claim: with `if` guards that share the last arm a turn takes longer
         match work {
             Work::Seeking(job, cursor) => self.seek(job, cursor),
             Work::Replacing(aside, pair) => {
