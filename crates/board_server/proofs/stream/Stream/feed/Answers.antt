@@ -14,10 +14,10 @@ leads c =
     places_lead (is_byte 10) c.args.bytes.now c.loop-end.taken (length c.args.bytes.now) c.in-Some.end c.next.new.self c.loop-end.invariant.0 (sym c.loop-end.invariant.2 ∙ c.in-Some.ensures.steps)
 
 pub slice_bounds-end_line-count : goal.slice_bounds-end_line-count
-slice_bounds-end_line-count c = (leads (goal.at.slice_bounds-end_line-count c).In-Some).low
+slice_bounds-end_line-count c = omega (arith, (leads (goal.at.slice_bounds-end_line-count c).In-Some).low)
 
 pub slice_bounds-end_line-start : goal.slice_bounds-end_line-start
-slice_bounds-end_line-start c = (leads (goal.at.slice_bounds-end_line-start c).In-Some).low
+slice_bounds-end_line-start c = omega (arith, (leads (goal.at.slice_bounds-end_line-start c).In-Some).low)
 
 pub slice_bounds-end_line-end : goal.slice_bounds-end_line-end
 slice_bounds-end_line-end c = omega (arith, (leads (goal.at.slice_bounds-end_line-end c).In-Some).high)
