@@ -51,7 +51,8 @@ impl Actor {
         Progress::Ended
     }
 
-    // Does what was decided. It writes, and refuses nothing.
+    // Does what was decided. It writes, and refuses nothing. A struct of the record and the tables would
+    // be made for this one call, of four `&mut` that its caller has apart.
     pub(crate) fn act<K: Copy, V: Copy>(
         self,
         core: &mut Core,

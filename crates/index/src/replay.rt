@@ -30,7 +30,8 @@ impl Record {
         let count = calls.len().min(replies.len());
         for i in 0..count {
             let reply = self.call_step(heads, items, requests, calls[i]);
-            // not `replies[i] = ..`: at a type that holds a V the bound of the offset is not found
+            // by place: of what is written by way of `iter_mut` and `zip` a proof knows nothing, and of
+            // `replies[i] = ..` at a type that holds a V the bound of the offset is not found
             put_element(replies, i, reply);
         }
         count

@@ -3,7 +3,8 @@ ghost use Rattle.lines.specs.Fields.{all_digits, value_of, number_of};
 
 use crate::fault::Cause;
 
-// The number in a field, which is at most `limit`.
+// The number in a field, which is at most `limit`. Each function that hands it up says so again: the
+// limit is an argument, and no type has it.
 pub fn number(field: &[u8], limit: u32) -> Result<u32, Cause>
     ensures value { result ≡ number_of limit field.now }
     ensures bound { IfOk result (λ n. n ≤ limit) }

@@ -22,7 +22,8 @@ const SESSION: u8 = 0;
 // More than any operation takes in a ring of as many keys as there are places.
 const MOST_TURNS: u32 = 5000;
 
-// An index with its tables. It has one bucket, so all keys are in one ring.
+// An index with its tables. It has one bucket, so all keys are in one ring. The index of a board has
+// tables too, but of one size, made once and sound by its type; here making and calls are timed apart.
 #[derive(Drop)]
 pub struct Ring {
     record: Record,
