@@ -39,6 +39,10 @@ abbrev heads_after : HeadMove → ℕ → (ℕ → Option ℕ) → ℕ → Optio
 heads_after Stays b heads = heads
 heads_after (Becomes o) b heads = changed b o heads
 
+-- a head that was p becomes what follows it
+head_follows : (heads : ℕ → Option ℕ) (p b : ℕ) (to : Option ℕ) (h : HeadMove) → h ≡ followed p to (heads b) → heads b ≡ Some p → heads_after h b heads b ≡ to
+head_follows heads p b to h e i = grind arith
+
 -- session s ends with the value u, and p, which it had claimed, is marked no more; states, nexts and heads are given
 abbrev swung :
     {K V : Type 0} → ℕ → Operation → ℕ → V → (ℕ → ItemState) → (ℕ → ℕ) → (ℕ → Option ℕ) → Whole K V → Whole K V
@@ -186,7 +190,7 @@ module _ {K V : Type 0} {order rank : K → K → Ordering} {bucket : K → ℕ}
         ahead = λ far. grind arith;
         alone = λ e. grind arith;
         rest = λ q far nor neither. grind arith;
-        headed = grind arith;
+        headed = λ b e. let f = head_follows v.head p (bucket (v.want s)) (Some x) h follows in grind arith;
         heads = λ b far. grind arith;
       }
 
@@ -280,7 +284,7 @@ module _ {K V : Type 0} {order rank : K → K → Ordering} {bucket : K → ℕ}
               others = λ q far. grind arith;
               behind = grind arith;
               rest = λ q far nor. grind arith;
-              headed = λ a e. grind arith;
+              headed = λ a e. let f = head_follows v.head p (bucket (v.want s)) (heir p ahead) h follows in grind arith;
               heads = λ a far. grind arith;
             })
             c-in may.leads far)
