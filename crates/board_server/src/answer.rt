@@ -14,6 +14,8 @@ pub enum Answer {
     Ships(Reply<u16>),
 }
 
+// Words and texts are bytes and no `Display`: a contract names each byte of an answer, and none is
+// written by way of a formatter.
 fn turn_words(progress: Progress) -> &'static [u8]
     ensures text { result.now ≡ turn_text progress }
     ensures short { length (turn_text progress) ≤ 10 }

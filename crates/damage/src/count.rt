@@ -9,7 +9,7 @@ pub struct Count<K> {
 }
 
 impl<K> Count<K> {
-    pub fn none_of((kind, name): (K, &'static str)) -> Count<K> {
+    pub(crate) fn none_of((kind, name): (K, &'static str)) -> Count<K> {
         Count {
             kind,
             name,
@@ -18,13 +18,13 @@ impl<K> Count<K> {
     }
 }
 
-pub fn add_one<K: PartialEq + Drop>(counts: &mut [Count<K>], kind: K) {
+pub(crate) fn add_one<K: PartialEq + Drop>(counts: &mut [Count<K>], kind: K) {
     if let Some(count) = counts.iter_mut().find(|count| count.kind == kind) {
         count.times = count.times.saturating_add(1);
     }
 }
 
-pub fn print_counts<K>(rt: &impl Print, counts: &[Count<K>]) -> io::Result<()> {
+pub(crate) fn print_counts<K>(rt: &impl Print, counts: &[Count<K>]) -> io::Result<()> {
     for count in counts {
         let name = count.name;
         let times = count.times;

@@ -82,7 +82,11 @@ impl Lent {
         self.items.get(place as usize).copied().unwrap_or(NO_ITEM)
     }
 
-    pub fn change_item<F: FnOnce(&mut Item<Berth, u32>) + Drop>(&mut self, place: u32, change: F)
+    pub(crate) fn change_item<F: FnOnce(&mut Item<Berth, u32>) + Drop>(
+        &mut self,
+        place: u32,
+        change: F,
+    )
         requires { F.IsAlwaysCallable change }
     {
         if let Some(item) = self.items.get_mut(place as usize) {

@@ -30,7 +30,7 @@ pub struct Rank {
 }
 
 impl Rank {
-    pub fn new(bits: u8, key: Berth) -> Rank {
+    pub(crate) fn new(bits: u8, key: Berth) -> Rank {
         Rank {
             tag: hash(key) % unit(bits),
             harbour: key.harbour,
@@ -39,7 +39,7 @@ impl Rank {
     }
 
     // Whether it falls between the ranks of an item and its next.
-    pub fn falls_between(self, c: Rank, m: Rank) -> bool {
+    pub(crate) fn falls_between(self, c: Rank, m: Rank) -> bool {
         c < self && self < m || self < m && m <= c || m <= c && c < self
     }
 }

@@ -35,7 +35,7 @@ const NEW_SEAT: Seat = Seat {
 };
 
 impl Seat {
-    pub fn work(self) -> Option<Work> {
+    pub(crate) fn work(self) -> Option<Work> {
         match self.phase {
             Phase::UnderWay(work) => Some(work),
             Phase::Idle | Phase::Ended { .. } => None,
@@ -97,7 +97,7 @@ impl Reference {
     }
 
     // Any call but a making.
-    pub fn act(
+    pub(crate) fn act(
         &mut self,
         lengths: Lengths,
         session: u8,
@@ -144,7 +144,7 @@ impl Reference {
     }
 
     // The find count stays.
-    pub fn put_phase(&mut self, session: u8, phase: Phase) {
+    pub(crate) fn put_phase(&mut self, session: u8, phase: Phase) {
         if let Some(seat) = self.seats.get_mut(session as usize) {
             seat.phase = phase;
         }

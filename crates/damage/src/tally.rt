@@ -145,7 +145,7 @@ impl Tally {
     }
 
     // How many calls were refused for this.
-    pub fn refused(&self, fault: IndexFault) -> u64 {
+    pub(crate) fn refused(&self, fault: IndexFault) -> u64 {
         self.refusals
             .iter()
             .find(|count| count.kind == fault)

@@ -173,6 +173,7 @@ impl Reference {
         if item.occupied {
             return Ok(Progress::Held);
         }
+        // no `map`: the read may refuse
         let replacing = match turn.work.aside {
             Some(a) => Some((a, self.read_next(m)?)),
             None => None,

@@ -17,7 +17,8 @@ use text::Text;
 // The head bits by which keys are placed.
 const HEAD_BITS: u8 = 4;
 
-// The word of an operation in a line.
+// The word of an operation in a line. Bytes and no `Display`, here and below: a contract names each,
+// and none is written by way of a formatter.
 fn operation_word(operation: Operation) -> &'static [u8]
     ensures { result.now ≡ word_of operation }
 {

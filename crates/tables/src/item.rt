@@ -11,7 +11,8 @@ pub enum ItemState {
     InRing,
 }
 
-// An entry of the item table. `occupied` marks an item that a session has claimed.
+// An entry of the item table. `next` is a place of that table, which is lent, so a ring is no list of
+// boxes. `occupied` marks an item that a session has claimed.
 #[derive(Clone, Copy, Debug, PartialEq, Eq)]
 pub struct Item<K, V> {
     pub state: ItemState,
