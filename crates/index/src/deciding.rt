@@ -129,7 +129,7 @@ impl<'a, K: Key, V: Copy> Seeker<'a, K, V> {
             return Ok(Move::Present(cursor, item.value));
         }
         let pair = self.pair_from(cursor, item)?;
-        // a `match`, here and in the swings: with `let .. else` or `?` a turn takes longer
+        // a `match`, tried otherwise: with `let .. else` or `?` here and in the swings a turn takes longer
         match self.items.get(pair.1 as usize) {
             None => Err(IndexFault::OutsideTable),
             Some(next) => self.on_pair(job, pair, item, next),

@@ -41,7 +41,8 @@ fn place_after(places: u32, place: u32) -> u32
     if place + 1 == places { 0 } else { place + 1 }
 }
 
-// The first free place after the hand, round the table to the hand itself.
+// The first free place after the hand, round the table to the hand itself. It goes place by place as the
+// rule does; two ranges in a chain would part the round at the table's end.
 pub(crate) fn first_free<K: Copy, V: Copy>(core: &Core, items: &[Item<K, V>]) -> Option<u32>
     requires { core.now.hand < core.now.places }
     ensures { result ≡ first_free_in core.now items.now }

@@ -1,7 +1,8 @@
 // The calls on an index. Each states its whole outcome by the rule book (`step`), and what it does for
 // the run that led to it (`law`): with this call the run goes on and is sound.
 // Each is lent the three tables apart, and as `&` those that it only reads: a struct of them, all `&mut`,
-// would ask callers of `make`, `begin`, `collect` and `abandon` for more.
+// would ask callers of `make`, `begin`, `collect` and `abandon` for more. Each is thin over a step with the
+// same outcome: a function with several ways out would owe the law at each.
 ghost use Rattle.std.specs.Prelude.{◌≡◌, Ok as Accepted};
 ghost use Rattle.calls.specs.declared.call.Action.TheVariants as action;
 ghost use Rattle.calls.specs.declared.reply.Reply.TheVariants as reply;

@@ -5,6 +5,7 @@ ghost use Rattle.keys.specs.Bytes.{bytes_hash};
 pub fn hash_bytes(bytes: &[u8]) -> u16
     ensures { result ≡ (bytes_hash bytes.now).value }
 {
+    // no `fold`, tried: the proof that its calls add up to the definition does not close
     let mut h: u16 = 0;
     for b in bytes {
         h = h.wrapping_mul(31).wrapping_add(u16::from(*b));

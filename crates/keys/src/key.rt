@@ -8,7 +8,8 @@ ghost use Rattle.keys.specs.Orders.{TotalPreorder};
 use std::cmp::Ordering;
 
 // A key kind: an order and a hash, both by the keys alone, and the laws that they keep. `Less` is
-// before, `Equal` is alike, `Greater` is after.
+// before, `Equal` is alike, `Greater` is after. No std `Ord`: what that calls equal has to be equal, and
+// alike keys may differ.
 pub trait Key: Copy {
     ghost order: { Self → Self → Ordering };
 

@@ -6,8 +6,9 @@ use crate::bytes::hash_bytes;
 use crate::key::Key;
 use std::cmp::Ordering;
 
-// A name: one to twelve bytes, kept with their count. Only `new` makes one.
-#[derive(Clone, Copy)]
+// A name: one to twelve bytes, kept with their count in a plain struct, as the rules have it. Only `new`
+// makes one, so what lies past the count is 0 in each.
+#[derive(Clone, Copy, Debug, PartialEq, Eq)]
 pub struct Name {
     bytes: [u8; 12],
     count: usize,

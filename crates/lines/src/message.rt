@@ -13,7 +13,7 @@ use keys::berth::Berth;
 use keys::name::Name;
 
 // A call on one of the two boards.
-#[derive(Clone, Copy)]
+#[derive(Clone, Copy, Debug, PartialEq, Eq)]
 pub enum Message {
     Berths(Call<Berth, Sailing>),
     Ships(Call<Name, u16>),

@@ -35,7 +35,7 @@ fn value_of(field: &[u8]) -> u64
     ensures { result ≡ value_of field.now }
 {
     let mut value: u64 = 0;
-    // no `fold`: the loop's invariant bounds the value at each digit
+    // no `fold`, tried: that the value fits at each digit does not close, which the loop's invariant says
     for b in field {
         value = 10 * value + (*b - b'0') as u64;
     }

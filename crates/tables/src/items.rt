@@ -28,6 +28,7 @@ pub fn change<T, F: FnOnce(&mut T)>(table: &mut [T], place: usize, by: F)
     requires { F.IsAlwaysCallable by }
     ensures { (f : T → T) → ((x y : T) → FnOnceReturnsAtMut F.FnOnce by x tt y → y ≡ f x) → table.new ≡ modify f place table.old }
 {
+    // as in `put_element`
     if place < table.len() {
         by(&mut table[place]);
     }
