@@ -35,7 +35,8 @@ impl Model for Stream {
 
 impl Stream {
     pub fn new(alloc: Global) -> Result<Stream, AllocError>
-        ensures { IfOk result (λ s. s ≡ new_stream) }
+        ensures value { IfOk result (λ s. s ≡ new_stream) }
+        ensures sound { IfOk result (λ s. Sounds s.boards) }
     {
         let server = Server::new(alloc)?;
         Ok(Stream {
@@ -43,6 +44,13 @@ impl Stream {
             line: Line::new(),
             text: Page::new(),
         })
+    }
+
+    // What the type of a board's index says of both boards, for contracts that see no fields.
+    fn both_sound(&self)
+        ensures { Sounds self.now.boards }
+    {
+        let _ = &self.server;
     }
 
     // The answers so far. Whatever stream is at hand, both its boards are sound.
@@ -91,10 +99,12 @@ impl Stream {
         ensures bound { result ≤ length bytes.now }
         ensures all { has_room self.new ≡ true → result ≡ length bytes.now }
         ensures some { has_room self.old ≡ true → 0 < length bytes.now → 0 < result }
+        ensures sound { Sounds self.new.boards }
     {
         let mut taken = 0;
         for end in memchr_iter(b'\n', bytes) {
             if !self.has_room() {
+                self.both_sound();
                 return taken;
             }
             self.end_line(&bytes[taken..end]);
@@ -103,15 +113,18 @@ impl Stream {
         if taken < bytes.len() {
             self.line.push_bytes(&bytes[taken..]);
         }
+        self.both_sound();
         bytes.len()
     }
 
     // The input has ended: a last line that lacks its byte 10 is answered too, if there is room.
     pub fn finish(&mut self)
-        ensures { self.new ≡ finished self.old }
+        ensures value { self.new ≡ finished self.old }
+        ensures sound { Sounds self.new.boards }
     {
         if !self.line.as_bytes().is_empty() && self.has_room() {
             self.end_line(&[]);
         }
+        self.both_sound();
     }
 }
