@@ -103,6 +103,7 @@ impl Manner {
 
     // Writes over everything.
     pub fn fill(self, lent: &mut Lent, dice: &mut Dice) {
+        // one index over three tables: the order of the draws fixes what is printed
         for (i, request) in lent.requests.iter_mut().enumerate() {
             *request = self.request(dice);
             if let Some(head) = lent.heads.get_mut(i) {

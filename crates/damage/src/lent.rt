@@ -75,8 +75,8 @@ impl Lent {
     }
 }
 
-// Reads and writes of one element. Nothing outside the tables is ever asked for; the tests are there
-// for the proof.
+// Reads and writes of one element. Plain indexing was tried: the proof that a place is inside does not
+// close, as damaged tables hold any number, and no bound on a bucket or a session is known here.
 impl Lent {
     pub fn item(&self, place: u32) -> Item<Berth, u32> {
         self.items.get(place as usize).copied().unwrap_or(NO_ITEM)

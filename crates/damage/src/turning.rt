@@ -173,11 +173,11 @@ impl Reference {
         if item.occupied {
             return Ok(Progress::Held);
         }
-        // no `map`: the read may refuse
-        let replacing = match turn.work.aside {
-            Some(a) => Some((a, self.read_next(m)?)),
-            None => None,
-        };
+        let replacing = turn
+            .work
+            .aside
+            .map(|a| self.read_next(m).map(|behind| (a, behind)))
+            .transpose()?;
         self.tables.change_item(m, |item| item.occupied = true);
         if let Some((a, behind)) = replacing {
             let next = if behind == m { a } else { behind };

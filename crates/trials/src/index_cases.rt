@@ -37,6 +37,7 @@ struct Making {
     heads: usize,
     items: usize,
     requests: usize,
+    // no refusal has the number 0, and a row stays a row of a table
     number: u8,
 }
 

@@ -47,6 +47,7 @@ fn name_hashes(rt: HostRuntime) -> Result<(), Fail> {
 }
 
 // Bytes, and the number of their refusal as a name, or 0.
+// No refusal has the number 0, and a row stays a row of a table.
 #[derive(Clone, Copy)]
 struct NameMade(&'static [u8], u8);
 

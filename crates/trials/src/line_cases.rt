@@ -2,6 +2,7 @@ use crate::verdict::verdict_of;
 use std::process::Abort;
 
 // A line, and the number, field and byte of its refusal, or 0 at each where it is accepted.
+// No refusal has the number 0, and a row stays a row of a table.
 #[derive(Clone, Copy)]
 struct Case(&'static [u8], u8, usize, usize);
 

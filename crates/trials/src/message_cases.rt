@@ -1,7 +1,7 @@
 use calls::call::Action;
 use calls::operation::Operation;
 use lines::message::{Message, read_line};
-use lines::word::Verb;
+use lines::word::{Letter, Verb};
 use std::test::Fail;
 
 // A line, and the whole of the begin on the berth board that it asks for.
@@ -114,9 +114,9 @@ fn begins_on_the_ship_board(rt: HostRuntime) -> Result<(), Fail> {
     Ok(())
 }
 
-// A line that begins nothing, whether it is for the berth board, its session and its verb.
+// A line that begins nothing, the letter of its board, its session and its verb.
 #[derive(Clone, Copy)]
-struct Short(&'static [u8], bool, u8, Verb);
+struct Short(&'static [u8], Letter, u8, Verb);
 
 fn verb_of<K: Copy, V: Copy>(action: Action<K, V>) -> Verb {
     match action {
@@ -130,19 +130,19 @@ fn verb_of<K: Copy, V: Copy>(action: Action<K, V>) -> Verb {
 #[test]
 fn other_calls(rt: HostRuntime) -> Result<(), Fail> {
     let cases = [
-        Short(b"B,turn,0", true, 0, Verb::Turn),
-        Short(b"S,turn,255", false, 255, Verb::Turn),
-        Short(b"B,collect,015", true, 15, Verb::Collect),
-        Short(b"S,collect,9", false, 9, Verb::Collect),
-        Short(b"B,abandon,16", true, 16, Verb::Abandon),
-        Short(b"S,abandon,3", false, 3, Verb::Abandon),
+        Short(b"B,turn,0", Letter::B, 0, Verb::Turn),
+        Short(b"S,turn,255", Letter::S, 255, Verb::Turn),
+        Short(b"B,collect,015", Letter::B, 15, Verb::Collect),
+        Short(b"S,collect,9", Letter::S, 9, Verb::Collect),
+        Short(b"B,abandon,16", Letter::B, 16, Verb::Abandon),
+        Short(b"S,abandon,3", Letter::S, 3, Verb::Abandon),
     ];
-    for Short(line, on_berths, session, verb) in cases {
+    for Short(line, letter, session, verb) in cases {
         let (board, found, action) = match read_line(line)? {
-            Message::Berths(call) => (true, call.session, verb_of(call.action)),
-            Message::Ships(call) => (false, call.session, verb_of(call.action)),
+            Message::Berths(call) => (Letter::B, call.session, verb_of(call.action)),
+            Message::Ships(call) => (Letter::S, call.session, verb_of(call.action)),
         };
-        assert_eq!(rt; board, on_berths);
+        assert_eq!(rt; board, letter);
         assert_eq!(rt; found, session);
         assert_eq!(rt; action, verb);
     }

@@ -9,6 +9,7 @@ pub fn verdict_of(line: &[u8]) -> (u8, usize, usize)
     ensures { result ≡ verdict_of (message_of line.now) }
 {
     match read_line(line) {
+        // no refusal has the number 0, and a row stays a row of a table
         Ok(_) => (0, 0, 0),
         Err(fault) => {
             let place = fault.place();
