@@ -56,9 +56,8 @@ pub fn put_reply<V: ShowValue>(reply: Reply<V>, out: &mut Page)
     }
 }
 
-// The text of a refusal.
-// As `explain` begins a refused line; its fault has another type, and no crate below both has texts and
-// faults.
+// The text of a refusal. `explain` begins a refused line so too, but its fault has another type, and no
+// crate below both has texts and faults.
 #[tactic(auto, using(text::proofs::Adding::added_twice))]
 pub fn put_fault(fault: BoardFault, out: &mut Page)
     ensures text { out.new ≡ appended out.old (fault_text fault) }

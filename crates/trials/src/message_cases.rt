@@ -1,5 +1,8 @@
-use calls::call::Action;
+use calls::call::{Action, Call, Task};
 use calls::operation::Operation;
+use keys::berth::Berth;
+use keys::name::Name;
+use lines::berths::Sailing;
 use lines::message::{Message, read_line};
 use lines::word::{Letter, Verb};
 use std::test::Fail;
@@ -17,7 +20,7 @@ struct BerthBegin {
 }
 
 #[test]
-fn begins_on_the_berth_board(rt: HostRuntime) -> Result<(), Fail> {
+fn begins_on_the_berth_board(rt: HostRuntime) {
     let cases = [
         BerthBegin {
             line: b"B,begin,0,insert,3,1,77,375",
@@ -48,20 +51,23 @@ fn begins_on_the_berth_board(rt: HostRuntime) -> Result<(), Fail> {
         },
     ];
     for case in cases {
-        let Ok(Message::Berths(call)) = read_line(case.line) else {
-            return Err(Fail::new("no call on the berth board"));
+        let task = Task {
+            operation: case.operation,
+            key: Berth {
+                harbour: case.harbour,
+                berth: case.berth,
+            },
+            value: Sailing {
+                ship: case.ship,
+                minute: case.minute,
+            },
         };
-        assert_eq!(rt; call.session, case.session);
-        let Action::Begin(task) = call.action else {
-            return Err(Fail::new("no begin"));
+        let call = Call {
+            session: case.session,
+            action: Action::Begin(task),
         };
-        assert_eq!(rt; task.operation, case.operation);
-        assert_eq!(rt; task.key.harbour, case.harbour);
-        assert_eq!(rt; task.key.berth, case.berth);
-        assert_eq!(rt; task.value.ship, case.ship);
-        assert_eq!(rt; task.value.minute, case.minute);
+        assert_eq!(rt; read_line(case.line), Ok(Message::Berths(call)));
     }
-    Ok(())
 }
 
 // A line, and the whole of the begin on the ship board that it asks for.
@@ -100,16 +106,16 @@ fn begins_on_the_ship_board(rt: HostRuntime) -> Result<(), Fail> {
         },
     ];
     for case in cases {
-        let Ok(Message::Ships(call)) = read_line(case.line) else {
-            return Err(Fail::new("no call on the ship board"));
+        let task = Task {
+            operation: case.operation,
+            key: Name::new(case.name)?,
+            value: case.berth,
         };
-        assert_eq!(rt; call.session, case.session);
-        let Action::Begin(task) = call.action else {
-            return Err(Fail::new("no begin"));
+        let call = Call {
+            session: case.session,
+            action: Action::Begin(task),
         };
-        assert_eq!(rt; task.operation, case.operation);
-        assert!(rt; task.key.used() == case.name);
-        assert_eq!(rt; task.value, case.berth);
+        assert_eq!(rt; read_line(case.line), Ok(Message::Ships(call)));
     }
     Ok(())
 }
