@@ -32,7 +32,8 @@ fn main(rt: HostRuntime) -> io::Result<()> {
     let mut out = rt.stdout();
     let mut chunk = [0u8; 65536];
     let mut report = Report::new();
-    // a bound that no input reaches: every loop is proved to end
+    // every loop is proved to end, so this one has a bound, which no input reaches; `boards` reads so too,
+    // by four lines that a crate for both would not make plainer
     for _ in 0..u64::MAX {
         let count = input.read(&mut chunk)?;
         if count == 0 {
