@@ -2,6 +2,7 @@ pub mod Orders
 pub mod Hashes
 pub mod Berths
 pub mod Bytes
+pub mod ByteOrder
 pub mod Names
 pub mod Ranks
 pub mod Examples

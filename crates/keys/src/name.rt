@@ -11,7 +11,7 @@ use std::cmp::Ordering;
 #[derive(Clone, Copy, Debug, PartialEq, Eq)]
 pub struct Name {
     bytes: [u8; 12],
-    count: usize,
+    count: u8,
 }
 
 // Why bytes make no name: there are none, or more than twelve.
@@ -46,7 +46,10 @@ impl Name {
         }
         let mut kept = [0u8; 12];
         kept[..count].copy_from_slice(bytes);
-        Ok(Name { bytes: kept, count })
+        Ok(Name {
+            bytes: kept,
+            count: count as u8,
+        })
     }
 
     // The bytes of the name.
@@ -54,7 +57,7 @@ impl Name {
         ensures { result.now ≡ used self.now }
     {
         // never more than twelve; `min` says so where the type does not
-        let count = self.count.min(12);
+        let count = (self.count as usize).min(12);
         &self.bytes[..count]
     }
 }

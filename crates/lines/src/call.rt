@@ -53,7 +53,8 @@ pub(crate) fn read_call<B: Board>(
     from: &mut Reader<'_>,
 ) -> Result<Call<B::Key, B::Value>, FieldFault>
     requires { from.old.next.field ≡ 2 }
-    ensures { (result, from.new.next) ≡ call_in B.Board.key_in B.Board.value_in (text from.old) from.old.next }
+    ensures value { (result, from.new.next) ≡ call_in B.Board.key_in B.Board.value_in (text from.old) from.old.next }
+    ensures line { text from.new ≡ text from.old }
 {
     let verb = from.word::<Verb>()?;
     let session = from.number(255)? as u8;

@@ -7,7 +7,7 @@ use Rattle.std.specs.Ordering.{is_eq}
 use Rattle.keys.specs.Orders.{Lawful}
 use Rattle.keys.proofs.Preorders.{total_preorder}
 use Rattle.calls.specs.declared.operation.Operation.{Operation}
-use Rattle.calls.specs.declared.operation.Operation.TheVariants.{Insert, Replace, Remove}
+use Rattle.calls.specs.declared.operation.Operation.TheVariants.{Insert, Write, Replace, Remove}
 use Rattle.calls.specs.Operations.{leaves}
 use Rattle.rules.specs.Plain.{found, stored, deleted, put, Apart}
 
@@ -142,9 +142,12 @@ module _ {K V : Type 0} (order : K → K → Ordering) where
   pub length_inserted : (x : K) (v : V) (es : List (K × V)) → found order x es ≡ None → length (put order x (leaves Insert v (found order x es)) es) ≡ suc (length es)
   length_inserted x v es h = ap length (put_done Insert x v None es h) ∙ length_stored_absent order x v es h
 
-  -- a replace that found something leaves as many
+  -- a replace or a write that found something leaves as many
   pub length_replaced : (x : K) (v u : V) (es : List (K × V)) → found order x es ≡ Some u → length (put order x (leaves Replace v (found order x es)) es) ≡ length es
   length_replaced x v u es h = ap length (put_done Replace x v (Some u) es h) ∙ length_stored_present order x v u es h
+
+  pub length-written : (x : K) (v u : V) (es : List (K × V)) → found order x es ≡ Some u → length (put order x (leaves Write v (found order x es)) es) ≡ length es
+  length-written x v u es h = ap length (put_done Write x v (Some u) es h) ∙ length_stored_present order x v u es h
 
   -- a remove that found something takes one entry off
   pub length_removed : (x : K) (v u : V) (es : List (K × V)) → found order x es ≡ Some u → suc (length (put order x (leaves Remove v (found order x es)) es)) ≡ length es

@@ -283,3 +283,9 @@ pub step_places :
     {K V : Type 0} (order : K → K → Ordering) (digest : K → Hash) (st after : State K V) (c : Call K V) (r : Result (Reply V) IndexFault) →
     step order digest st c ≡ (r, after) → after.core.places ≡ st.core.places
 step_places order digest st after c r stepped = ap (λ done. done.1.core.places) (sym stepped) ∙ (step_sized st order digest c.session c.action).0
+
+-- and as many head bits
+pub step_bits :
+    {K V : Type 0} (order : K → K → Ordering) (digest : K → Hash) (st after : State K V) (c : Call K V) (r : Result (Reply V) IndexFault) →
+    step order digest st c ≡ (r, after) → after.core.bits ≡ st.core.bits
+step_bits order digest st after c r stepped = ap (λ done. done.1.core.bits) (sym stepped) ∙ (step_sized st order digest c.session c.action).1
