@@ -1,7 +1,6 @@
 ghost use Rattle.std.specs.Prelude.{◌≡◌, ◌≤◌, [], ◌∷◌, length};
 ghost use Rattle.text.specs.Kept.{added};
 
-use arrayvec::ArrayVec;
 use itoa::{Buffer, Integer};
 use std::marker::Model;
 
@@ -12,19 +11,22 @@ pub type Line = Text<81>;
 // The answers of a stream.
 pub type Page = Text<65536>;
 
-// A text of up to `N` bytes. What is added past them is left out.
+// A text of up to `N` bytes. What is added past them is left out. An array with its length, so that a text is
+// forgotten at once, however long it is.
 #[derive(Drop)]
 pub struct Text<const N: usize> {
-    bytes: ArrayVec<u8, N>,
+    bytes: [u8; N],
+    len: usize,
+    ghost within: { len ≤ N },
 }
 
 // Clauses see the bytes.
 impl<const N: usize> Model for Text<N> {
-    ghost use Rattle.std.specs.Prelude.{ℕ, List};
+    ghost use Rattle.std.specs.Prelude.{ℕ, List, take};
 
     ghost Value = { List ℕ };
 
-    ghost view = { λ t. t.bytes.items };
+    ghost view = { λ t. take t.len t.bytes };
 }
 
 #[tactic(auto, unfolding(crate::specs::Kept::added))]
@@ -33,7 +35,8 @@ impl<const N: usize> Text<N> {
         ensures { result ≡ [] }
     {
         Text {
-            bytes: ArrayVec::new(),
+            bytes: [0; N],
+            len: 0,
         }
     }
 
@@ -41,13 +44,13 @@ impl<const N: usize> Text<N> {
         ensures kept { result.now ≡ self.now }
         ensures short { length result.now ≤ N }
     {
-        self.bytes.as_slice()
+        &self.bytes[..self.len]
     }
 
     pub fn clear(&mut self)
         ensures { self.new ≡ [] }
     {
-        self.bytes.clear();
+        self.len = 0;
     }
 
     // As many of the bytes as there is room for.
@@ -55,18 +58,20 @@ impl<const N: usize> Text<N> {
     pub fn push_bytes(&mut self, more: &[u8])
         ensures { self.new ≡ added N self.old more.now }
     {
-        if self.bytes.try_extend_from_slice(more).is_err() {
-            let room = self.bytes.remaining_capacity();
-            let _ = self.bytes.try_extend_from_slice(&more[..room]);
-        }
+        let start = self.len;
+        let end = start + more.len().min(N - start);
+        let bytes = &mut self.bytes[..];
+        bytes[start..end].copy_from_slice(&more[..end - start]);
+        self.len = end;
     }
 
     // The byte, if there is room for it.
     pub fn push(&mut self, byte: u8)
         ensures { self.new ≡ added N self.old (byte ∷ []) }
     {
-        if !self.bytes.is_full() {
-            self.bytes.push(byte);
+        if self.len < N {
+            self.bytes[self.len] = byte;
+            self.len += 1;
         }
     }
 
