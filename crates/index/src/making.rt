@@ -39,11 +39,8 @@ pub(crate) fn clear_items<K: Copy, V: Copy>(items: &mut [Item<K, V>])
     ensures { items.new ≡ blank_from 0 items.old }
 {
     for (place, item) in items.iter_mut().enumerate() {
-        *item = Item {
-            state: ItemState::Out,
-            next: place as u32,
-            occupied: false,
-            ..*item
-        };
+        item.state = ItemState::Out;
+        item.next = place as u32;
+        item.occupied = false;
     }
 }
