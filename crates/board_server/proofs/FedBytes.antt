@@ -17,7 +17,7 @@ added_whole : (text more : List ℕ) → length text + length more ≤ 65536 →
 unfolding added
 added_whole text more h = take_all 65536 (text ++ more) (omega (arith, length-append text more))
 
-added_short : (n : ℕ) (bs more : List ℕ) → length (added n bs more) ≤ n
+pub added_short : (n : ℕ) (bs more : List ℕ) → length (added n bs more) ≤ n
 unfolding added
 added_short n bs more = omega (arith, length-take n (bs ++ more))
 
@@ -34,7 +34,7 @@ module _ (b : Boards) (text : List ℕ) where
       ap (λ s. fed s xs) (fed_one line x (inside 0 (omega arith) (omega arith))) ∙ rest ∙ ap (λ l. streamed b l text) (added_twice 81 line (x ∷ []) xs)
 
   -- bytes of a line are kept, as far as there is room
-  fed_inside : (line xs : List ℕ) → length line ≤ 81 → Inside xs → fed (streamed b line text) xs ≡ streamed b (added 81 line xs) text
+  pub fed_inside : (line xs : List ℕ) → length line ≤ 81 → Inside xs → fed (streamed b line text) xs ≡ streamed b (added 81 line xs) text
   fed_inside line [] h inside = ap (λ l. streamed b l text) (sym (added_nothing 81 line h))
   fed_inside line (x ∷ xs) h inside =
       fed_more line x xs inside (fed_inside (added 81 line (x ∷ [])) xs (added_short 81 line (x ∷ [])) (λ k from to. inside (suc k) (omega arith) (omega arith)))
@@ -44,19 +44,26 @@ module _ (b : Boards) (text : List ℕ) where
   fed_part line (x ∷ xs) some inside =
       sym (fed_more line x xs inside (fed_inside (added 81 line (x ∷ [])) xs (added_short 81 line (x ∷ [])) (λ k from to. inside (suc k) (omega arith) (omega arith))))
 
--- what a line still lacked and its end come in, and it is answered: its answer comes behind the text
-module _ (b after : Boards) (line text whole one two xs : List ℕ) (old : Streamed) (seen : streamed b line text ≡ old) (kept : length line ≤ 81) (inside : Inside xs) (room : has_room old ≡ true) where
-  pub line_answered : whole ≡ added 81 line xs → length (served whole b).0 ≤ 48 → (one, after) ≡ answered text whole b → two ≡ appended one (10 ∷ []) → streamed after [] two ≡ fed old (xs ++ 10 ∷ [])
-  line_answered same short exact push =
-      let answer = (served whole b).0 in
-      let there = ap has_room seen ∙ room in
-      let left : length text ≤ 65472 = grind (arith, nat_tests) in
+-- a line that has been read is answered: its answer comes behind the text, whole
+module _ (b after : Boards) (line bytes rest text one two : List ℕ) (same : bytes ≡ line) (short : length (served bytes b).0 ≤ 48) (room : length text ≤ 65472) where
+  pub line_answered : (one, after) ≡ answered text bytes b → two ≡ appended one (10 ∷ []) → rest ≡ [] → streamed after rest two ≡ line_ended (streamed b line text)
+  line_answered exact push clear =
+      let answer = (served bytes b).0 in
       let first : one ≡ text ++ answer = ap (λ d. d.0) exact ∙ added_whole text answer (omega arith) in
       let second : two ≡ (text ++ answer) ++ 10 ∷ [] =
       push ∙ ap (λ t. appended t (10 ∷ [])) first ∙ added_whole (text ++ answer) (10 ∷ []) (omega (arith, length-append text answer)) in
+      let stays : after ≡ (served bytes b).1 = ap (λ d. d.1) exact in
+      ap (λ x. streamed x rest two) stays ∙ ap (λ x. streamed (served bytes b).1 x two) clear ∙ ap (λ x. streamed (served bytes b).1 [] x) second ∙ ap (λ l. line_ended (streamed b l text)) same
+
+-- what a line still lacked and its end come in, and it is answered
+module _ (b after : Boards) (line text whole one two xs : List ℕ) (old : Streamed) (seen : streamed b line text ≡ old) (kept : length line ≤ 81) (inside : Inside xs) (room : has_room old ≡ true) where
+  pub line_fed : whole ≡ added 81 line xs → length (served whole b).0 ≤ 48 → (one, after) ≡ answered text whole b → two ≡ appended one (10 ∷ []) → streamed after [] two ≡ fed old (xs ++ 10 ∷ [])
+  line_fed same short exact push =
+      let there = ap has_room seen ∙ room in
+      let left : length text ≤ 65472 = grind (arith, nat_tests) in
       let all : fed (streamed b line text) (xs ++ 10 ∷ []) ≡ line_ended (streamed b whole text) =
       fold_push fed_byte (streamed b line text) xs 10 ∙ ap line_ended (fed_inside b text line xs kept inside ∙ ap (λ l. streamed b l text) (sym same)) in
-      ap (λ bs. streamed bs [] two) (ap (λ d. d.1) exact) ∙ ap (λ t. streamed (served whole b).1 [] t) second ∙ sym all ∙ ap (λ s. fed s (xs ++ 10 ∷ [])) seen
+      line_answered b after whole whole [] text one two refl short left exact push refl ∙ sym all ∙ ap (λ s. fed s (xs ++ 10 ∷ [])) seen
 
 pub no_bytes : (line seen : List ℕ) → seen ≡ line → true ≡ (length seen == 0) → line ≡ []
 no_bytes [] seen e none = refl
@@ -91,7 +98,7 @@ module _ (bytes : List ℕ) (from to : ℕ) (le : from ≤ to) where
 fed_byte_cleared : (s : Streamed) (b : ℕ) → cleared (fed_byte (cleared s) b) ≡ cleared (fed_byte s b)
 fed_byte_cleared s b = elim (is_end b) as (λ v. cleared (cond v (line_ended (cleared s)) (with_line (added 81 s.line (b ∷ [])) (cleared s))) ≡ cleared (cond v (line_ended s) (with_line (added 81 s.line (b ∷ [])) s))) [ true ↦ refl | false ↦ refl ]
 
-fed_cleared : (s t : Streamed) (bytes : List ℕ) → cleared s ≡ cleared t → cleared (fed s bytes) ≡ cleared (fed t bytes)
+pub fed_cleared : (s t : Streamed) (bytes : List ℕ) → cleared s ≡ cleared t → cleared (fed s bytes) ≡ cleared (fed t bytes)
 fed_cleared s t [] e = e
 fed_cleared s t (b ∷ bytes) e =
     fed_cleared (fed_byte s b) (fed_byte t b) bytes (sym (fed_byte_cleared s b) ∙ ap (λ x. cleared (fed_byte x b)) e ∙ fed_byte_cleared t b)

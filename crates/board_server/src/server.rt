@@ -1,7 +1,7 @@
 ghost use Rattle.std.specs.Prelude.{◌≡◌, ◌≤◌, length, IfOk};
 ghost use Rattle.lines.specs.Boards.{message_of};
 ghost use Rattle.board_server.specs.Answers.{appended};
-ghost use Rattle.board_server.specs.Served.{boards_of, new_boards, board_text, served_by, served, answered, LawAt};
+ghost use Rattle.board_server.specs.Served.{boards_of, new_boards, board_text, served_by, served, answered, Sounds, LawAt};
 
 use crate::answer::{Answer, put_fault, put_reply};
 use crate::board_index::BoardIndex;
@@ -35,7 +35,8 @@ fn put_answer(answer: Answer, out: &mut Page)
 impl Server {
     // Both boards, made new.
     pub fn new(alloc: Global) -> Result<Server, AllocError>
-        ensures { IfOk result (λ s. boards_of s ≡ new_boards) }
+        ensures value { IfOk result (λ s. boards_of s ≡ new_boards) }
+        ensures sound { IfOk result (λ s. Sounds (boards_of s)) }
     {
         let berth = Berth {
             harbour: 0,
@@ -64,6 +65,7 @@ impl Server {
     pub fn answer(&mut self, line: &[u8], out: &mut Page)
         ensures exact { (out.new, boards_of self.new) ≡ answered out.old line.now (boards_of self.old) }
         ensures short { length (served line.now (boards_of self.old)).0 ≤ 48 }
+        ensures sound { Sounds (boards_of self.new) }
         ensures law { LawAt (message_of line.now) (boards_of self.old) (boards_of self.new) }
     {
         match self.serve(line) {

@@ -1,7 +1,7 @@
-ghost use Rattle.std.specs.Prelude.{◌≡◌, ◌<◌, ◌≤◌, true, None, [], ◌∷◌, ◌++◌, length, take, IfOk};
+ghost use Rattle.std.specs.Prelude.{◌≡◌, ◌-◌, ◌<◌, ◌≤◌, true, false, None, [], ◌∷◌, ◌++◌, length, get_or, take, IfOk};
 ghost use Rattle.memchr.specs.Find.{IsFirstByte, is_byte};
 ghost use Rattle.board_server.specs.Served.{Sounds};
-ghost use Rattle.board_server.specs.Streams.{new_stream, fed, has_room, finished, cleared};
+ghost use Rattle.board_server.specs.Streams.{is_end, new_stream, fed, has_room, finished, cleared};
 
 use crate::server::Server;
 use memchr::memchr_iter;
@@ -56,6 +56,7 @@ impl Stream {
     // The answers so far. Whatever stream is at hand, both its boards are sound.
     pub fn text(&self) -> &[u8]
         ensures value { result.now ≡ self.now.text }
+        ensures short { length result.now ≤ 65536 }
         ensures sound { Sounds self.now.boards }
     {
         self.text.as_bytes()
@@ -92,29 +93,50 @@ impl Stream {
         self.text.push(b'\n');
     }
 
-    // Takes in bytes, all of them unless the answers run out of room, and says how many. Where there is
-    // room to begin with, it is at least one.
-    pub fn feed(&mut self, bytes: &[u8]) -> usize
+    // Takes in bytes where there is room, all of them unless the answers run out of it, and says how many.
+    // What a line begins with is taken in only where there is room for its answer.
+    fn take_in(&mut self, bytes: &[u8]) -> usize
+        requires { has_room self.old ≡ true }
         ensures fed { self.new ≡ fed self.old (take result bytes.now) }
         ensures bound { result ≤ length bytes.now }
         ensures all { has_room self.new ≡ true → result ≡ length bytes.now }
-        ensures some { has_room self.old ≡ true → 0 < length bytes.now → 0 < result }
-        ensures sound { Sounds self.new.boards }
+        ensures some { 0 < length bytes.now → 0 < result }
+        ensures ends { has_room self.new ≡ false → 0 < result → is_end (get_or bytes.now (result - 1) 0) ≡ true }
     {
         let mut taken = 0;
         for end in memchr_iter(b'\n', bytes) {
             if !self.has_room() {
-                self.both_sound();
                 return taken;
             }
             self.end_line(&bytes[taken..end]);
             taken = end + 1;
         }
-        if taken < bytes.len() {
+        let room = self.has_room();
+        if taken < bytes.len() && room {
             self.line.push_bytes(&bytes[taken..]);
+            return bytes.len();
         }
+        taken
+    }
+
+    // Takes in bytes, all of them unless the answers run out of room, and says how many. Where there is
+    // room to begin with, it is at least one, and else none; where none is left, they end a line.
+    pub fn feed(&mut self, bytes: &[u8]) -> usize
+        ensures fed { self.new ≡ fed self.old (take result bytes.now) }
+        ensures bound { result ≤ length bytes.now }
+        ensures all { has_room self.new ≡ true → result ≡ length bytes.now }
+        ensures some { has_room self.old ≡ true → 0 < length bytes.now → 0 < result }
+        ensures none { has_room self.old ≡ false → result ≡ 0 }
+        ensures ends { has_room self.new ≡ false → 0 < result → is_end (get_or bytes.now (result - 1) 0) ≡ true }
+        ensures sound { Sounds self.new.boards }
+    {
+        let taken = if self.has_room() {
+            self.take_in(bytes)
+        } else {
+            0
+        };
         self.both_sound();
-        bytes.len()
+        taken
     }
 
     // The input has ended: a last line that lacks its byte 10 is answered too, if there is room.

@@ -1,12 +1,12 @@
-use Rattle.std.proofs.Common.{◌≡◌, ◌-◌, ◌<◌, length, take, drop, sym, ap, ◌∙◌, arith}
+use Rattle.std.proofs.Common.{◌≡◌, ◌+◌, ◌-◌, ◌<◌, length, take, drop, get_or, sym, ap, ◌∙◌, arith}
 use Rattle.std.proofs.lemmas.List.{length-take, length-drop}
 use Rattle.memchr.specs.Find.{is_byte}
 use Rattle.board_server.specs.Served.{boards_of}
-use Rattle.board_server.specs.Streams.{streamed, fed}
+use Rattle.board_server.specs.Streams.{is_end, streamed, fed}
 use Rattle.board_server.proofs.FedBytes.{inside_part, with_end, fed_on, fed_part}
 use Rattle.board_server.proofs.LinePlaces.{Leads, places_lead, places_none}
-use Rattle.board_server.proofs.stream.Stream.feed.Goals as goal
-use Rattle.board_server.proofs.stream.Stream.feed.Goals.{In-Some, then-taken-bytes, else-taken-bytes}
+use Rattle.board_server.proofs.stream.Stream.take_in.Goals as goal
+use Rattle.board_server.proofs.stream.Stream.take_in.Goals.{In-Some}
 
 -- the place that the iterator gave is where the next line ends
 leads : (c : In-Some) → Leads (is_byte 10) c.args.bytes.now c.loop-end.taken (length c.args.bytes.now) c.in-Some.end c.next.new.self
@@ -31,25 +31,18 @@ pub loop-end-preserved : goal.loop-end-preserved
 loop-end-preserved c =
     let lead = leads (goal.at.loop-end-preserved c).In-Some in
     let bytes = c.args.bytes.now in
+    let last : (c.in-Some.end + 1) - 1 ≡ c.in-Some.end = omega arith in
     let line = c.end_line.ensures ∙ ap (fed c.loop-end.self) (with_end bytes c.loop-end.taken c.in-Some.end lead.low lead.high lead.here) in
-    (omega (arith, lead.high), fed_on bytes c.loop-end.taken _ (omega (arith, lead.low)) c.args.self.now c.loop-end.self _ c.loop-end.invariant.1 line, lead.rest)
+    (omega (arith, lead.high), fed_on bytes c.loop-end.taken _ (omega (arith, lead.low)) c.args.self.now c.loop-end.self _ c.loop-end.invariant.1 line, lead.rest, λ _. ap (λ k. is_end (get_or bytes k 0)) last ∙ lead.here)
 
-pub returns-clause-fed : goal.returns-clause-fed
-returns-clause-fed c =
+pub returns-then-room-clause-fed : goal.returns-then-room-clause-fed
+returns-then-room-clause-fed c =
     let bytes = c.args.bytes.now in
     let taken = c.loop-end.taken in
-    elim c.if-taken-bytes.branch [
-      | then-taken-bytes w ↦ (
-          let self = c.self.inside in
-          let none = places_none (is_byte 10) bytes taken (length bytes) c.loop-end.invariant.0 (sym c.loop-end.invariant.2 ∙ c.in-None.ensures.steps.0) in
-          let inside = inside_part bytes taken (length bytes) c.loop-end.invariant.0 none in
-          let part = take (length bytes - taken) (drop taken bytes) in
-          let some : 0 < length part = omega (arith, length-take (length bytes - taken) (drop taken bytes), length-drop taken bytes, w.if-taken-bytes.true) in
-          let rest = ap (λ l. streamed (boards_of self.server) l self.text) w.push_bytes.ensures ∙ fed_part (boards_of self.server) self.text self.line part some inside ∙ ap (λ s. fed s part) c.self.view_is in
-          w.self-is ∙ fed_on bytes taken (length bytes) c.loop-end.invariant.0 c.args.self.now c.loop-end.self _ c.loop-end.invariant.1 rest
-          )
-      | else-taken-bytes w ↦ (
-          let whole : taken ≡ length bytes = omega (arith, c.loop-end.invariant.0, w.if-taken-bytes.false) in
-          w.self-is ∙ c.loop-end.invariant.1 ∙ ap (λ n. fed c.args.self.now (take n bytes)) whole
-          )
-    ]
+    let self = c.self.inside in
+    let none = places_none (is_byte 10) bytes taken (length bytes) c.loop-end.invariant.0 (sym c.loop-end.invariant.2 ∙ c.in-None.ensures.steps.0) in
+    let inside = inside_part bytes taken (length bytes) c.loop-end.invariant.0 none in
+    let part = take (length bytes - taken) (drop taken bytes) in
+    let some : 0 < length part = omega (arith, length-take (length bytes - taken) (drop taken bytes), length-drop taken bytes, c.if-taken-bytes.true) in
+    let rest = ap (λ l. streamed (boards_of self.server) l self.text) c.push_bytes.ensures ∙ fed_part (boards_of self.server) self.text self.line part some inside ∙ ap (λ s. fed s part) c.self.view_is in
+    fed_on bytes taken (length bytes) c.loop-end.invariant.0 c.args.self.now c.loop-end.self _ c.loop-end.invariant.1 rest
