@@ -1,4 +1,4 @@
-ghost use Rattle.std.specs.Prelude.{◌≡◌, is_ok};
+ghost use Rattle.std.specs.Prelude.{◌≡◌, ◌≤◌, length, is_ok};
 ghost use Rattle.lines.specs.Boards.{message_of};
 ghost use Rattle.lines.specs.Words.{operation as word_of};
 ghost use Rattle.text.specs.Kept.{added};
@@ -20,7 +20,8 @@ const HEAD_BITS: u8 = 4;
 // The word of an operation in a line. Bytes and no `Display`, here and below: a contract names each,
 // and none is written by way of a formatter.
 fn operation_word(operation: Operation) -> &'static [u8]
-    ensures { result.now ≡ word_of operation }
+    ensures text { result.now ≡ word_of operation }
+    ensures short { length (word_of operation) ≤ 7 }
 {
     match operation {
         Operation::Find => b"find",
@@ -34,7 +35,8 @@ fn operation_word(operation: Operation) -> &'static [u8]
 
 // Where a key with this hash lies.
 fn explain_place<const N: usize>(hash: u16, out: &mut Text<N>)
-    ensures { out.new ≡ added N out.old (place_text hash) }
+    ensures text { out.new ≡ added N out.old (place_text hash) }
+    ensures short { length (place_text hash) ≤ 35 }
 {
     out.push_bytes(b"hash ");
     out.push_number(hash);
@@ -45,7 +47,8 @@ fn explain_place<const N: usize>(hash: u16, out: &mut Text<N>)
 }
 
 fn explain_task<K: Key + Show<N>, V: Show<N>, const N: usize>(task: Task<K, V>, out: &mut Text<N>)
-    ensures { out.new ≡ added N out.old (task_text K.Show.shown V.Show.shown K.Key.digest task) }
+    ensures text { out.new ≡ added N out.old (task_text K.Show.shown V.Show.shown K.Key.digest task) }
+    ensures short { length (task_text K.Show.shown V.Show.shown K.Key.digest task) ≤ 162 }
 {
     out.push_bytes(b" begins ");
     out.push_bytes(operation_word(task.operation));
@@ -61,7 +64,8 @@ fn explain_action<K: Key + Show<N>, V: Show<N>, const N: usize>(
     action: Action<K, V>,
     out: &mut Text<N>,
 )
-    ensures { out.new ≡ added N out.old (action_text K.Show.shown V.Show.shown K.Key.digest action) }
+    ensures text { out.new ≡ added N out.old (action_text K.Show.shown V.Show.shown K.Key.digest action) }
+    ensures short { length (action_text K.Show.shown V.Show.shown K.Key.digest action) ≤ 162 }
 {
     match action {
         Action::Begin(task) => explain_task(task, out),
@@ -72,7 +76,8 @@ fn explain_action<K: Key + Show<N>, V: Show<N>, const N: usize>(
 }
 
 fn explain_call<K: Key + Show<N>, V: Show<N>, const N: usize>(call: Call<K, V>, out: &mut Text<N>)
-    ensures { out.new ≡ added N out.old (call_text K.Show.shown V.Show.shown K.Key.digest call) }
+    ensures text { out.new ≡ added N out.old (call_text K.Show.shown V.Show.shown K.Key.digest call) }
+    ensures short { length (call_text K.Show.shown V.Show.shown K.Key.digest call) ≤ 173 }
 {
     out.push_bytes(b"session ");
     out.push_number(call.session);
@@ -80,7 +85,8 @@ fn explain_call<K: Key + Show<N>, V: Show<N>, const N: usize>(call: Call<K, V>, 
 }
 
 fn explain_message<const N: usize>(message: Message, out: &mut Text<N>)
-    ensures { out.new ≡ added N out.old (message_text message) }
+    ensures text { out.new ≡ added N out.old (message_text message) }
+    ensures short { length (message_text message) ≤ 186 }
 {
     match message {
         Message::Berths(call) => {
@@ -95,7 +101,8 @@ fn explain_message<const N: usize>(message: Message, out: &mut Text<N>)
 }
 
 fn name_words(fault: NameFault) -> &'static [u8]
-    ensures { result.now ≡ name_fault_text fault }
+    ensures text { result.now ≡ name_fault_text fault }
+    ensures short { length (name_fault_text fault) ≤ 29 }
 {
     match fault {
         NameFault::Empty => b"a name has no bytes",
@@ -104,7 +111,8 @@ fn name_words(fault: NameFault) -> &'static [u8]
 }
 
 fn cause_words(cause: Cause) -> &'static [u8]
-    ensures { result.now ≡ cause_text cause }
+    ensures text { result.now ≡ cause_text cause }
+    ensures short { length (cause_text cause) ≤ 75 }
 {
     match cause {
         Cause::Missing => b"a wanted field is missing or empty",
@@ -117,7 +125,8 @@ fn cause_words(cause: Cause) -> &'static [u8]
 }
 
 fn reason_words(fault: LineFault) -> &'static [u8]
-    ensures { result.now ≡ reason_text fault }
+    ensures text { result.now ≡ reason_text fault }
+    ensures short { length (reason_text fault) ≤ 75 }
 {
     match fault {
         LineFault::Length => b"a line has no bytes, or more than 80",
@@ -126,7 +135,8 @@ fn reason_words(fault: LineFault) -> &'static [u8]
 }
 
 fn explain_fault<const N: usize>(fault: LineFault, out: &mut Text<N>)
-    ensures { out.new ≡ added N out.old (fault_text fault) }
+    ensures text { out.new ≡ added N out.old (fault_text fault) }
+    ensures short { length (fault_text fault) ≤ 125 }
 {
     let place = fault.place();
     out.push_bytes(b"no,");
@@ -143,6 +153,7 @@ fn explain_fault<const N: usize>(fault: LineFault, out: &mut Text<N>)
 pub fn explain_line<const N: usize>(line: &[u8], out: &mut Text<N>) -> bool
     ensures accepted { result ≡ is_ok (message_of line.now) }
     ensures text { out.new ≡ added N out.old (line_text line.now) }
+    ensures short { length (line_text line.now) ≤ 255 }
 {
     match read_line(line) {
         Ok(message) => {

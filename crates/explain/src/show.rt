@@ -1,4 +1,4 @@
-ghost use Rattle.std.specs.Prelude.{◌≡◌, ℕ, ◌<◌, List};
+ghost use Rattle.std.specs.Prelude.{◌≡◌, ℕ, ◌<◌, ◌≤◌, List, length};
 ghost use Rattle.std.specs.List.{flat_map};
 ghost use Rattle.text.specs.Kept.{added};
 ghost use Rattle.explain.specs.Explained.{berth_text, sailing_text, name_text, berth_number_text, byte_text, hex_digit};
@@ -14,7 +14,8 @@ pub trait Show<const N: usize>: Copy {
     ghost shown: { Self → List ℕ };
 
     fn show(self, out: &mut Text<N>)
-        ensures { out.new ≡ added N out.old (shown self) };
+        ensures text { out.new ≡ added N out.old (shown self) }
+        ensures short { length (shown self) ≤ 53 };
 }
 
 impl<const N: usize> Show<N> for Berth {

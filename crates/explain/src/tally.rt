@@ -1,4 +1,4 @@
-ghost use Rattle.std.specs.Prelude.{◌≡◌};
+ghost use Rattle.std.specs.Prelude.{◌≡◌, ◌≤◌, length};
 ghost use Rattle.text.specs.Kept.{added};
 ghost use Rattle.explain.specs.Tallies.{tally, counted, tally_text};
 
@@ -33,7 +33,8 @@ impl Tally {
     }
 
     pub fn explain<const N: usize>(self, out: &mut Text<N>)
-        ensures { out.new ≡ added N out.old (tally_text self) }
+        ensures text { out.new ≡ added N out.old (tally_text self) }
+        ensures short { length (tally_text self) ≤ 87 }
     {
         out.push_number(self.accepted.saturating_add(self.refused));
         out.push_bytes(b" lines: ");
