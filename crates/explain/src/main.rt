@@ -6,6 +6,8 @@ ghost use Rattle.std.specs.Io.KnownBytes.{Appends};
 ghost use Rattle.explain.specs.Reports.{is_full, is_due, fed, said, Writes};
 
 mod explanation;
+#[cfg(test)]
+mod read_cases;
 mod report;
 mod show;
 mod tally;
