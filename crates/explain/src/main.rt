@@ -78,8 +78,8 @@ fn explain_all<R: Read, W: Write>(input: &mut R, out: &mut W) -> io::Result<()>
 {
     let mut chunk = [0u8; 65536];
     let mut report = Report::new();
-    // every loop is proved to end, so this one has a bound, which no input reaches; `boards` reads so too,
-    // by four lines that a crate for both would not make plainer
+    // every loop is proved to end, so this one has a bound, which no input reaches; `boards` reads so too, but
+    // holds nothing back that a read that fails would lose
     for _ in 0..u64::MAX {
         let count = match input.read(&mut chunk) {
             Ok(count) => count,
