@@ -66,12 +66,36 @@ impl Lengths {
     }
 }
 
+// Field by field, not by the derived `==`, so that what is compared stands here.
+fn same_item(a: &Item<Berth, u32>, b: &Item<Berth, u32>) -> bool
+    ensures { IsTrue result ↔ (a.now ≡ b.now) }
+{
+    a.state == b.state
+        && a.key == b.key
+        && a.value == b.value
+        && a.next == b.next
+        && a.occupied == b.occupied
+}
+
+fn same_items(a: &[Item<Berth, u32>; ITEMS], b: &[Item<Berth, u32>; ITEMS]) -> bool
+    ensures { IsTrue result ↔ (a.now ≡ b.now) }
+{
+    for i in 0..ITEMS {
+        if !same_item(&a[i], &b[i]) {
+            return false;
+        }
+    }
+    true
+}
+
 impl Lent {
     // Whether all three tables agree, element by element.
     pub fn same(&self, other: &Lent) -> bool
         ensures { IsTrue result ↔ (self.now ≡ other.now) }
     {
-        self == other
+        self.heads == other.heads
+            && same_items(&self.items, &other.items)
+            && self.requests == other.requests
     }
 }
 

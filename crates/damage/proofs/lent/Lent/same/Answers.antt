@@ -1,6 +1,8 @@
 use Rattle.std.proofs.Common.{rules}
-use Rattle.damage.proofs.Tables.{lent_eq-Decides}
+use Rattle.std.proofs.lemmas.Slice.Eq.{slice_eq-Decides}
 use Rattle.damage.proofs.lent.Lent.same.Goals as goal
 
-pub returns : goal.returns
-returns c = lent_eq-Decides _ _ _ c.eq.ensures (λ a b. search rules) (λ a b. search rules)
+pub returns-then-same_items : goal.returns-then-same_items
+returns-then-same_items c =
+    let requests = slice_eq-Decides (λ a b. search rules) c.args.self.now.requests c.args.other.now.requests _ c.eq-then-same_items.ensures in
+    grind (rules, requests)
