@@ -28,8 +28,8 @@ fn main(rt: HostRuntime) -> anyhow::Result<()> {
     let mut out = rt.stdout();
     let mut stream = Stream::new(rt.alloc())?;
     let mut chunk = [0u8; 65536];
-    // every loop is proved to end, so this one has a bound, which no input reaches; `explain` reads so too,
-    // by four lines that a crate for both would not make plainer
+    // every loop is proved to end, so this one has a bound, which no input reaches; `explain` reads so too, but
+    // has text left to write where a read fails
     for _ in 0..u64::MAX {
         let count = input.read(&mut chunk)?;
         if count == 0 {

@@ -77,6 +77,7 @@ fn same_item(a: &Item<Berth, u32>, b: &Item<Berth, u32>) -> bool
         && a.occupied == b.occupied
 }
 
+// An index loop: by `zip` and `all` it takes longer.
 fn same_items(a: &[Item<Berth, u32>; ITEMS], b: &[Item<Berth, u32>; ITEMS]) -> bool
     ensures { IsTrue result ↔ (a.now ≡ b.now) }
 {

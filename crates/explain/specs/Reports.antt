@@ -18,7 +18,7 @@ new_report = report [] [] (tally 0 0)
 abbrev pub with_line : List ℕ → List ℕ → List ℕ
 with_line text more = added 65536 text (more ++ 10 ∷ [])
 
--- there is no room for what is said of a line more and for the counts
+-- the text is to be written out before more is said
 abbrev pub is_full : Report → Bool
 is_full r = nat_lt 65024 (length r.text)
 
